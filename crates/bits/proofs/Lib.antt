@@ -1,0 +1,4 @@
+pub mod Bit
+pub mod Clearing
+pub mod Programming
+pub mod Counting

@@ -1,0 +1,42 @@
+-- The two kinds of step, what each does to an image, and how many of each a list of steps has.
+use mathlib.Core.List.{List, [], _∷_, _++_}
+use Prim.Native.Nat.{ℕ, suc, _+_}
+use lib.ListN.{set, take, drop, replicate}
+use Rattle.bits.specs.Word.{ones, programmed}
+use Rattle.geometry.specs.declared.Geometry.{Geometry}
+use Rattle.geometry.specs.Geometry.{blockLength}
+use Rattle.geometry.specs.Places.{place}
+use Rattle.image.specs.Words.{Image, word}
+
+-- "Each step either programs one word .. or erases one block."
+pub data Step : Type 0 where
+  -- a place, and the word asked for there
+  Program : ℕ → ℕ → Step
+  -- a block
+  Erase : ℕ → Step
+
+-- "every word of that block is set to ones"
+unfoldable pub erasedBlock : Geometry → Image → ℕ → Image
+erasedBlock geo image b =
+    take (place geo b 0) image ++ (replicate (blockLength geo) ones ++ drop (place geo b (blockLength geo)) image)
+
+-- "programs one word (the new word is the old one and the asked one, bit by bit) or erases one block"
+unfoldable pub applied : Geometry → Image → Step → Image
+applied geo image (Program p w) = set image p (programmed (word image p) w)
+applied geo image (Erase b) = erasedBlock geo image b
+
+-- the image after the steps, in their order
+unfoldable pub run : Geometry → Image → List Step → Image
+run geo image [] = image
+run geo image (s ∷ ss) = run geo (applied geo image s) ss
+
+-- "Reported words and erasures are the counts of those two kinds of step in the call."
+unfoldable pub wordsIn : List Step → ℕ
+wordsIn [] = 0
+wordsIn (Program p w ∷ ss) = suc (wordsIn ss)
+wordsIn (Erase b ∷ ss) = wordsIn ss
+
+unfoldable pub erasuresIn : List Step → ℕ
+erasuresIn [] = 0
+erasuresIn (Program p w ∷ ss) = erasuresIn ss
+erasuresIn (Erase b ∷ ss) = suc (erasuresIn ss)

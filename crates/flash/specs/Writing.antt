@@ -1,0 +1,79 @@
+-- "Write picks a slot, then moves the data in": rules 1, 2 and 3.
+use mathlib.Core.Bool.{Bool, not, cond, _&&_}
+use mathlib.Core.List.{List, [], _∷_, _++_}
+use Prim.Native.Nat.{ℕ, zero, suc, _+_}
+use lib.Dec.{eqb}
+use Rattle.ranges.specs.Range.{anyBelow, countBelow}
+use Rattle.geometry.specs.declared.Geometry.{Geometry}
+use Rattle.geometry.specs.Geometry.{d}
+use Rattle.geometry.specs.Places.{place, eraseWord}
+use Rattle.image.specs.declared.Slot.{Slot}
+use Rattle.image.specs.declared.Slot.the-variants.{Free, Live, Dead, Faulty}
+use Rattle.image.specs.Words.{Image, eraseCount, contents}
+use Rattle.image.specs.Slots.{slot}
+use Rattle.image.specs.Blocks.{blank, isOpen, lowestFree, lowestOpen, lowestBlank, leastWornBlank, victim}
+use Rattle.flash.specs.Steps.{Step, Program, Erase, run}
+use Rattle.flash.specs.Placing.{placing}
+
+-- the steps of a reclaim so far, and how many slots of the blank block they took
+pub record Copied : Type 0 where
+  pub steps : List Step
+  pub taken : ℕ
+
+module _ (geo : Geometry) where
+  -- "1. If any block is open: the lowest free slot of the lowest-numbered open block."
+  abbrev pub inOpenBlock : Image → ℕ → List ℕ → List Step
+  inOpenBlock image n ws = placing geo image n ws (lowestOpen geo image) (lowestFree geo image (lowestOpen geo image))
+
+  -- "2. None open, two or more blank: slot 0 of the blank block with the least erase count, lowest number on a tie."
+  abbrev pub inBlankBlock : Image → ℕ → List ℕ → List Step
+  inBlankBlock image n ws = placing geo image n ws (leastWornBlank geo image) 0
+
+  abbrev pub anyOpen : Image → Bool
+  anyOpen image = anyBelow (geo .blocks) (isOpen geo image)
+
+  -- "rule 1 or 2 applies"
+  unfoldable pub filling : Image → ℕ → List ℕ → List Step
+  filling image n ws = cond (anyOpen image) (inOpenBlock image n ws) (inBlankBlock image n ws)
+
+  -- "3. None open, one blank: reclaim."
+  unfoldable pub mustReclaim : Image → Bool
+  mustReclaim image = not (anyOpen image) && eqb (countBelow (geo .blocks) (blank geo image)) 1
+
+  -- slot i of block v, as the image now stands, placed in block t if it is live
+  abbrev pub copiedSlot : Image → ℕ → ℕ → ℕ → Copied → Slot → Copied
+  copiedSlot now v t i before Free = before
+  copiedSlot now v t i before (Live n) =
+      record {
+        steps = before .steps ++ placing geo now n (contents geo now v i) t (before .taken);
+        taken = suc (before .taken);
+      }
+  copiedSlot now v t i before Dead = before
+  copiedSlot now v t i before Faulty = before
+
+  -- "Its live slots are placed, in slot order, in slots 0, 1, 2 and on of the blank block.": the first m slots of v
+  unfoldable pub copying : Image → ℕ → ℕ → ℕ → Copied
+  copying image v t zero = record { steps = []; taken = 0 }
+  copying image v t (suc m) =
+      let before = copying image v t m in
+      let now = run geo image (before .steps) in
+      copiedSlot now v t m before (slot geo now v m)
+
+  -- "The victim is erased: every word of that block is set to ones, then word 0 is programmed with the old count plus 1."
+  abbrev pub erasing : Image → ℕ → List Step
+  erasing image v = Erase v ∷ Program (place geo v eraseWord) (eraseCount geo image v + 1) ∷ []
+
+  -- the reclaim of block v into the blank block
+  unfoldable pub reclaiming : Image → ℕ → List Step
+  reclaiming image v = copying image v (lowestBlank geo image) (d geo) .steps ++ erasing image v
+
+  -- rule 3, with the victim v: "Then rule 1 or 2 applies."
+  unfoldable pub reclaimingFirst : Image → ℕ → ℕ → List ℕ → List Step
+  reclaimingFirst image v n ws =
+      let reclaimed = reclaiming image v in
+      reclaimed ++ filling (run geo image reclaimed) n ws
+
+  -- "Write picks a slot, then moves the data in"
+  unfoldable pub writing : Image → ℕ → List ℕ → List Step
+  writing image n ws =
+      cond (mustReclaim image) (reclaimingFirst image (victim geo image) n ws) (filling image n ws)

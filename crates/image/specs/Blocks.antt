@@ -1,0 +1,56 @@
+-- What the slots of a block say of the block, and the blocks that a write chooses by them.
+use mathlib.Core.Bool.{Bool, not, _&&_, _||_}
+use Prim.Native.Nat.{ℕ}
+use lib.Dec.{ltb, eqb}
+use Rattle.ranges.specs.Range.{allBelow, anyBelow, countBelow, bestBelow, firstBelow}
+use Rattle.geometry.specs.declared.Geometry.{Geometry}
+use Rattle.geometry.specs.Geometry.{d}
+use Rattle.image.specs.Words.{Image, eraseCount}
+use Rattle.image.specs.Slots.{slot, isFree, isLive, isDead}
+
+module _ (geo : Geometry) (image : Image) where
+  -- "A block is blank when all its slots are free, full when none is, open otherwise."
+  unfoldable pub blank : ℕ → Bool
+  blank b = allBelow (d geo) (λ i. isFree (slot geo image b i))
+
+  unfoldable pub full : ℕ → Bool
+  full b = not (anyBelow (d geo) (λ i. isFree (slot geo image b i)))
+
+  abbrev pub isOpen : ℕ → Bool
+  isOpen b = not (blank b) && not (full b)
+
+  -- the free, live and dead slots of a block
+  abbrev pub freeSlots : ℕ → ℕ
+  freeSlots b = countBelow (d geo) (λ i. isFree (slot geo image b i))
+
+  abbrev pub liveSlots : ℕ → ℕ
+  liveSlots b = countBelow (d geo) (λ i. isLive (slot geo image b i))
+
+  abbrev pub deadSlots : ℕ → ℕ
+  deadSlots b = countBelow (d geo) (λ i. isDead (slot geo image b i))
+
+  -- "the lowest free slot" of a block; d where there is none
+  unfoldable pub lowestFree : ℕ → ℕ
+  lowestFree b = firstBelow (d geo) (λ i. isFree (slot geo image b i))
+
+  -- "the lowest-numbered open block"; B where there is none
+  unfoldable pub lowestOpen : ℕ
+  lowestOpen = firstBelow (geo .blocks) isOpen
+
+  -- the blank block with the lowest number; B where there is none
+  unfoldable pub lowestBlank : ℕ
+  lowestBlank = firstBelow (geo .blocks) blank
+
+  -- "the blank block with the least erase count, lowest number on a tie"; B where there is none
+  abbrev pub lessWorn : ℕ → ℕ → Bool
+  lessWorn b r = ltb (eraseCount geo image b) (eraseCount geo image r)
+
+  unfoldable pub leastWornBlank : ℕ
+  leastWornBlank = bestBelow lessWorn (geo .blocks) blank
+
+  -- "the full block with most dead slots; ties go to the least erase count, then the lowest number"; B where there is none
+  abbrev pub preferred : ℕ → ℕ → Bool
+  preferred b r = ltb (deadSlots r) (deadSlots b) || eqb (deadSlots r) (deadSlots b) && lessWorn b r
+
+  unfoldable pub victim : ℕ
+  victim = bestBelow preferred (geo .blocks) full

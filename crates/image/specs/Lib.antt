@@ -1,0 +1,4 @@
+pub mod Words
+pub mod Slots
+pub mod Blocks
+pub mod WellFormed

@@ -1,0 +1,45 @@
+-- "One block, in words": what the words of an image hold. Everything above reads an image through these names alone.
+use mathlib.Core.Bool.{Bool}
+use mathlib.Core.List.{List}
+use Prim.Native.Nat.{ℕ, _%_}
+use lib.ListN.{getD, take, drop}
+use Rattle.bits.specs.Word.{isSet}
+use Rattle.geometry.specs.declared.Geometry.{Geometry}
+use Rattle.geometry.specs.Geometry.{sectorWords}
+use Rattle.geometry.specs.Places.{place, eraseWord, leastWord, greatestWord, mapWord, entryWord, contentWord}
+
+-- "a lent image of 32-bit words"
+abbrev pub Image : Type 0
+Image = List ℕ
+
+abbrev pub word : Image → ℕ → ℕ
+word image p = getD image p 0
+
+module _ (geo : Geometry) (image : Image) where
+  -- "0 | erase count"
+  unfoldable pub eraseCount : ℕ → ℕ
+  eraseCount b = word image (place geo b eraseWord)
+
+  -- "1 | minimum mapped sector"
+  unfoldable pub leastMapped : ℕ → ℕ
+  leastMapped b = word image (place geo b leastWord)
+
+  -- "2 | maximum mapped sector"
+  unfoldable pub greatestMapped : ℕ → ℕ
+  greatestMapped b = word image (place geo b greatestWord)
+
+  -- the free-map word of block b that has slot i's bit
+  unfoldable pub freeMap : ℕ → ℕ → ℕ
+  freeMap b i = word image (place geo b (mapWord i))
+
+  -- "free map: slot i is bit i mod 32 of word 3 + i/32, set while free"
+  abbrev pub mapBit : ℕ → ℕ → Bool
+  mapBit b i = isSet (freeMap b i) (i % 32)
+
+  -- "mapping entries, slot 0 first"
+  unfoldable pub entry : ℕ → ℕ → ℕ
+  entry b i = word image (place geo b (entryWord geo i))
+
+  -- "contents of slot i": the 128 words
+  unfoldable pub contents : ℕ → ℕ → List ℕ
+  contents b i = take sectorWords (drop (place geo b (contentWord geo i 0)) image)

@@ -1,0 +1,98 @@
+-- "What each call does": what it answers, reports and leaves, for every input, refused or not.
+use mathlib.Core.List.{List, [], _∷_}
+use Prim.Native.Nat.{ℕ, zero, suc}
+use lib.ListN.{set, replicate}
+use Rattle.ranges.specs.Range.{sumBelow}
+use Rattle.bits.specs.Word.{ones}
+use Rattle.geometry.specs.declared.Geometry.{Geometry}
+use Rattle.geometry.specs.Geometry.{imageLength}
+use Rattle.geometry.specs.Places.{place, eraseWord}
+use Rattle.image.specs.declared.Found.{Found}
+use Rattle.image.specs.declared.Found.the-variants.{At, Nothing}
+use Rattle.image.specs.Words.{Image, eraseCount, contents}
+use Rattle.image.specs.Slots.{find}
+use Rattle.image.specs.Blocks.{freeSlots, liveSlots, deadSlots}
+use Rattle.flash.specs.Steps.{Step, run, wordsIn, erasuresIn}
+use Rattle.flash.specs.Placing.{releasing}
+use Rattle.flash.specs.Writing.{writing}
+use Rattle.shellwaltz.specs.declared.Answer.{Answer}
+use Rattle.shellwaltz.specs.declared.Answer.the-variants.{Accepted, BadGeometry, BadBuffer, BadNumber, Malformed, Unmapped, WornOut}
+use Rattle.shellwaltz.specs.declared.Outcome.{Outcome}
+use Rattle.shellwaltz.specs.declared.Totals.{Totals}
+use Rattle.shellwaltz.specs.Refusals.{formatAnswer, checkAnswer, reportAnswer, readAnswer, writeAnswer, releaseAnswer}
+
+-- what a call gives where it is accepted, and what it gives where it is refused
+abbrev pub ifAccepted {ℓ} : {A : Type ℓ} → Answer → A → A → A
+ifAccepted Accepted yes-this refused = yes-this
+ifAccepted BadGeometry yes-this refused = refused
+ifAccepted BadBuffer yes-this refused = refused
+ifAccepted BadNumber yes-this refused = refused
+ifAccepted Malformed yes-this refused = refused
+ifAccepted Unmapped yes-this refused = refused
+ifAccepted WornOut yes-this refused = refused
+
+module _ (geo : Geometry) where
+  -- Format. "sets all words to ones, then word 0 of every block to 0": word 0 of the first m blocks
+  unfoldable pub countsZeroed : Image → ℕ → Image
+  countsZeroed image zero = image
+  countsZeroed image (suc m) = set (countsZeroed image m) (place geo m eraseWord) 0
+
+  unfoldable pub fresh : Image
+  fresh = countsZeroed (replicate (imageLength geo) ones) (geo .blocks)
+
+module _ (geo : Geometry) (image : Image) where
+  -- the image that a format leaves
+  unfoldable pub formatted : Image
+  formatted = ifAccepted (formatAnswer geo image) (fresh geo) image
+
+  -- "it reports 0 words and 0 erasures"
+  abbrev pub formatOutcome : Outcome
+  formatOutcome = record { answer = formatAnswer geo image; words = 0; erasures = 0 }
+
+  -- "Report gives mapped, free and dead slots and the sum of erase counts." On refusal "a report's four numbers, are 0".
+  abbrev pub total : (ℕ → ℕ) → ℕ
+  total f = ifAccepted (reportAnswer geo image) (sumBelow (geo .blocks) f) 0
+
+  abbrev pub reported : Totals
+  reported =
+      record {
+        answer = reportAnswer geo image;
+        mapped = total (liveSlots geo image);
+        free = total (freeSlots geo image);
+        dead = total (deadSlots geo image);
+        «erase_sum» = total (eraseCount geo image);
+      }
+
+  -- "Read copies 128 words to the buffer.": the buffer that a read leaves
+  abbrev pub copiedFrom : Found → List ℕ → List ℕ
+  copiedFrom (At b i) buffer = contents geo image b i
+  copiedFrom Nothing buffer = buffer
+
+  unfoldable pub readBuffer : ℕ → List ℕ → List ℕ
+  readBuffer n buffer = ifAccepted (readAnswer geo image n buffer) (copiedFrom (find geo image n) buffer) buffer
+
+  -- The steps of a write and of a release: none where it is refused.
+  unfoldable pub writeSteps : ℕ → List ℕ → List Step
+  writeSteps n buffer = ifAccepted (writeAnswer geo image n buffer) (writing geo image n buffer) []
+
+  unfoldable pub releaseSteps : ℕ → List Step
+  releaseSteps n = ifAccepted (releaseAnswer geo image n) (releasing geo image n) []
+
+-- "Reported words and erasures are the counts of those two kinds of step in the call."
+abbrev pub outcome : Answer → List Step → Outcome
+outcome answer steps = record { answer = answer; words = wordsIn steps; erasures = erasuresIn steps }
+
+module _ (geo : Geometry) (image : Image) where
+  -- a write: what it reports, and the image that it leaves
+  abbrev pub writeOutcome : ℕ → List ℕ → Outcome
+  writeOutcome n buffer = outcome (writeAnswer geo image n buffer) (writeSteps geo image n buffer)
+
+  abbrev pub written : ℕ → List ℕ → Image
+  written n buffer = run geo image (writeSteps geo image n buffer)
+
+  -- a release: what it reports, and the image that it leaves
+  abbrev pub releaseOutcome : ℕ → Outcome
+  releaseOutcome n = outcome (releaseAnswer geo image n) (releaseSteps geo image n)
+
+  abbrev pub released : ℕ → Image
+  released n = run geo image (releaseSteps geo image n)
