@@ -4,8 +4,8 @@ use Rattle.bits.specs.Word.{bit, cleared, shared}
 use Rattle.geometry.specs.Geometry.{roundedUp, g, withinLimits}
 use Rattle.image.specs.Words.{eraseCount, leastMapped, greatestMapped, freeMap, entry, contents}
 use Rattle.image.specs.Slots.{isComplete, slotOf, slot, find}
-use Rattle.image.specs.Blocks.{blank, full, lowestFree, lowestOpen, lowestBlank, leastWornBlank, victim}
-use Rattle.image.specs.WellFormed.{R1, R2, R3, R4, R5, R6, R7, soundBlock, sound, wellFormed}
+use Rattle.image.specs.Blocks.{blank, full, lowestFree, lowestOpen, leastWornBlank, victim}
+use Rattle.image.specs.WellFormed.{R1, R2, R3, R4, R5, R6, R7, brokenRule, soundBlock, sound, wellFormed}
 use Rattle.flash.specs.Steps.{erasedBlock, applied, run, wordsIn, erasuresIn}
 use Rattle.flash.specs.Placing.{leastLive, greatestLive, closesBlock, fillsSlot, placing, releasing}
 use Rattle.flash.specs.Writing.{filling, mustReclaim, copying, reclaiming, reclaimingFirst, writing}
@@ -15,5 +15,5 @@ use Rattle.shellwaltz.specs.Runs.{called, ran}
 use Rattle.figures.specs.Figures.{P1-to-P9}
 
 pub p1-to-p9 : P1-to-P9
-unfolding allBelow anyBelow sumBelow listBelow bestBelow bit cleared shared roundedUp g withinLimits eraseCount leastMapped greatestMapped freeMap entry contents isComplete slotOf slot find blank full lowestFree lowestOpen lowestBlank leastWornBlank victim R1 R2 R3 R4 R5 R6 R7 soundBlock sound wellFormed erasedBlock applied run wordsIn erasuresIn leastLive greatestLive closesBlock fillsSlot placing releasing filling mustReclaim copying reclaiming reclaimingFirst writing formatAnswer checkAnswer reportAnswer readAnswer writeAnswer releaseAnswer countsZeroed fresh formatted readBuffer writeSteps releaseSteps called ran
+unfolding allBelow anyBelow sumBelow listBelow bestBelow bit cleared shared roundedUp g withinLimits eraseCount leastMapped greatestMapped freeMap entry contents isComplete slotOf slot find blank full lowestFree lowestOpen leastWornBlank victim R1 R2 R3 R4 R5 R6 R7 brokenRule soundBlock sound wellFormed erasedBlock applied run wordsIn erasuresIn leastLive greatestLive closesBlock fillsSlot placing releasing filling mustReclaim copying reclaiming reclaimingFirst writing formatAnswer checkAnswer reportAnswer readAnswer writeAnswer releaseAnswer countsZeroed fresh formatted readBuffer writeSteps releaseSteps called ran
 p1-to-p9 = tt

@@ -11,7 +11,7 @@ use Rattle.image.specs.declared.Slot.{Slot}
 use Rattle.image.specs.declared.Slot.the-variants.{Free, Live, Dead, Faulty}
 use Rattle.image.specs.Words.{Image, eraseCount, contents}
 use Rattle.image.specs.Slots.{slot}
-use Rattle.image.specs.Blocks.{blank, isOpen, lowestFree, lowestOpen, lowestBlank, leastWornBlank, victim}
+use Rattle.image.specs.Blocks.{blank, isOpen, lowestFree, lowestOpen, leastWornBlank, victim}
 use Rattle.flash.specs.Steps.{Step, Program, Erase, run}
 use Rattle.flash.specs.Placing.{placing}
 
@@ -63,9 +63,9 @@ module _ (geo : Geometry) where
   abbrev pub erasing : Image → ℕ → List Step
   erasing image v = Erase v ∷ Program (place geo v eraseWord) (eraseCount geo image v + 1) ∷ []
 
-  -- the reclaim of block v into the blank block
+  -- the reclaim of block v into "the blank block": there is one, so it is the least worn
   unfoldable pub reclaiming : Image → ℕ → List Step
-  reclaiming image v = copying image v (lowestBlank geo image) (d geo) .steps ++ erasing image v
+  reclaiming image v = copying image v (leastWornBlank geo image) (d geo) .steps ++ erasing image v
 
   -- rule 3, with the victim v: "Then rule 1 or 2 applies."
   unfoldable pub reclaimingFirst : Image → ℕ → ℕ → List ℕ → List Step

@@ -37,10 +37,6 @@ module _ (geo : Geometry) (image : Image) where
   unfoldable pub lowestOpen : ℕ
   lowestOpen = firstBelow (geo .blocks) isOpen
 
-  -- the blank block with the lowest number; B where there is none
-  unfoldable pub lowestBlank : ℕ
-  lowestBlank = firstBelow (geo .blocks) blank
-
   -- "the blank block with the least erase count, lowest number on a tie"; B where there is none
   abbrev pub lessWorn : ℕ → ℕ → Bool
   lessWorn b r = ltb (eraseCount geo image b) (eraseCount geo image r)

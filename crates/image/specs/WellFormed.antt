@@ -1,7 +1,8 @@
 -- "Well-formed images": R1 to R5 and R7 as tests of one block, R6 of the image.
-use mathlib.Core.Bool.{Bool, not, cond, Bool·beq, _&&_, _||_}
+use mathlib.Core.Bool.{Bool, true, not, cond, Bool·beq, _&&_, _||_}
 use mathlib.Core.List.{List}
-use Prim.Native.Nat.{ℕ, _+_, _*_, _-_}
+use mathlib.Core.Path.{_≡_}
+use Prim.Native.Nat.{ℕ, _+_, _*_, _-_, _<_}
 use lib.Dec.{leb, eqb}
 use lib.ListN.{getD}
 use Rattle.ranges.specs.Range.{_implies_, allBelow, anyBelow}
@@ -77,3 +78,18 @@ module _ (geo : Geometry) (image : Image) where
   -- "Well-formed images": R1 to R7
   unfoldable pub wellFormed : Bool
   wellFormed = sound && R6
+
+  -- the number of the first of R1 to R5 and R7 that block b breaks, in that order; 0 where it keeps them all
+  unfoldable pub brokenRule : ℕ → ℕ
+  brokenRule b =
+      cond (not (R1 b)) 1
+      (cond (not (R2 b)) 2
+      (cond (not (R3 b)) 3
+      (cond (not (R4 b)) 4
+      (cond (not (R5 b)) 5
+      (cond (not (R7 b)) 7
+      0)))))
+
+-- R2 holds of every block: what the map is read for is what the entries say
+pub record MapsAgree (geo : Geometry) (image : Image) : Type 0 where
+  pub agrees : (b : ℕ) → b < geo .blocks → R2 geo image b ≡ true

@@ -1,16 +1,22 @@
 -- "One block, in words": what the words of an image hold. Everything above reads an image through these names alone.
 use mathlib.Core.Bool.{Bool}
 use mathlib.Core.List.{List}
+use mathlib.Core.Path.{_≡_}
 use Prim.Native.Nat.{ℕ, _%_}
-use lib.ListN.{getD, take, drop}
+use lib.ListN.{length, getD, take, drop}
 use Rattle.bits.specs.Word.{isSet}
 use Rattle.geometry.specs.declared.Geometry.{Geometry}
-use Rattle.geometry.specs.Geometry.{sectorWords}
+use Rattle.geometry.specs.Geometry.{Limits, imageLength, sectorWords}
 use Rattle.geometry.specs.Places.{place, eraseWord, leastWord, greatestWord, mapWord, entryWord, contentWord}
 
 -- "a lent image of 32-bit words"
 abbrev pub Image : Type 0
 Image = List ℕ
+
+-- an image of the length that its geometry, within the limits, says: what row 1 of the refusals leaves
+pub record Shaped (geo : Geometry) (image : Image) : Type 0 where
+  pub limits : Limits geo
+  pub long : length image ≡ imageLength geo
 
 abbrev pub word : Image → ℕ → ℕ
 word image p = getD image p 0
