@@ -1,5 +1,7 @@
 ghost use mathlib.Core.Path.{_≡_};
-ghost use Rattle.geometry.specs.Geometry.{d, k, g, blockLength, imageLength, withinLimits};
+ghost use Prim.Native.Nat.{_<_};
+ghost use Rattle.geometry.specs.Geometry.{d, k, g, blockLength, imageLength, withinLimits, Limits};
+ghost use Rattle.geometry.specs.Places.{place, eraseWord, mapWord, entryWord, contentWord};
 
 // "Three numbers are given: blocks B .., sectors per block S .., logical sectors L." Any three may be handed in:
 // each method is total, and what it gives is what specs/Geometry.antt says, within the limits or not.
@@ -82,5 +84,42 @@ impl Geometry {
             return false;
         }
         logical < (blocks - 1) * self.d()
+    }
+
+    // Where block b starts. These four say where things lie, for a block of a geometry that is within its limits.
+    pub fn start(self, b: usize) -> usize
+        requires { ⌜ Limits self ⌝ }
+        requires { ⌜ b < self .blocks ⌝ }
+        ensures { λ r. ⌜ r ≡ place self b eraseWord ⌝ }
+    {
+        b * self.block_length()
+    }
+
+    // Where the free map of block b starts.
+    pub fn map_start(self, b: usize) -> usize
+        requires { ⌜ Limits self ⌝ }
+        requires { ⌜ b < self .blocks ⌝ }
+        ensures { λ r. ⌜ r ≡ place self b (mapWord 0) ⌝ }
+    {
+        self.start(b) + 3
+    }
+
+    // Where the entries of block b start.
+    pub fn entries_start(self, b: usize) -> usize
+        requires { ⌜ Limits self ⌝ }
+        requires { ⌜ b < self .blocks ⌝ }
+        ensures { λ r. ⌜ r ≡ place self b (entryWord self 0) ⌝ }
+    {
+        self.map_start(b) + self.k()
+    }
+
+    // Where the contents of slot i of block b start.
+    pub fn contents_start(self, b: usize, i: usize) -> usize
+        requires { ⌜ Limits self ⌝ }
+        requires { ⌜ b < self .blocks ⌝ }
+        requires { ⌜ i < d self ⌝ }
+        ensures { λ r. ⌜ r ≡ place self b (contentWord self i 0) ⌝ }
+    {
+        self.start(b) + 128 * (1 + i)
     }
 }
