@@ -1,29 +1,44 @@
 -- "Placing n in a slot programs, in order": (a) to (g). And release, which programs one word.
 use mathlib.Core.Bool.{cond}
 use mathlib.Core.List.{List, [], _∷_, _++_}
-use Prim.Native.Nat.{ℕ, _+_, _%_}
+use mathlib.Core.Path.{_≡_}
+use Prim.Native.Nat.{ℕ, _+_, _%_, _<_}
 use lib.ListN.{getD}
 use Rattle.ranges.specs.Range.{listBelow, firstBelow, lastBelow}
 use Rattle.bits.specs.Word.{cleared}
 use Rattle.geometry.specs.declared.Geometry.{Geometry}
-use Rattle.geometry.specs.Geometry.{sectorWords}
+use Rattle.geometry.specs.Geometry.{d, sectorWords}
 use Rattle.geometry.specs.Places.{place, leastWord, greatestWord, mapWord, entryWord, contentWord}
 use Rattle.image.specs.declared.Found.{Found}
 use Rattle.image.specs.declared.Found.the-variants.{At, Nothing}
 use Rattle.image.specs.Words.{Image, freeMap, entry}
 use Rattle.image.specs.Slots.{validBit, currentBit, find, liveIn}
 use Rattle.image.specs.Blocks.{full}
+use Rattle.flash.specs.declared.LiveBounds.{LiveBounds}
 use Rattle.flash.specs.Steps.{Step, Program, run}
+
+-- a place that was found lies in the image
+pub record InImage (geo : Geometry) (found : Found) : Type 0 where
+  pub block : (b i : ℕ) → found ≡ At b i → b < geo .blocks
+  pub slot-of : (b i : ℕ) → found ≡ At b i → i < d geo
 
 module _ (geo : Geometry) where
   -- "(a) the map word with that slot's bit cleared"
   abbrev pub takesSlot : Image → ℕ → ℕ → List Step
   takesSlot image b i = Program (place geo b (mapWord i)) (cleared (freeMap geo image b i) (i % 32)) ∷ []
 
+  -- the entry at a place where a number was found, and that entry programmed; nothing where it was not found
+  abbrev pub entryAt : Image → Found → ℕ
+  entryAt image (At b i) = entry geo image b i
+  entryAt image Nothing = 0
+
+  abbrev pub programsEntry : Found → ℕ → List Step
+  programsEntry (At b i) asked = Program (place geo b (entryWord geo i)) asked ∷ []
+  programsEntry Nothing asked = []
+
   -- "(b) if n was live elsewhere, the old entry with bit 30 cleared"
   abbrev pub outdates : Image → Found → List Step
-  outdates image (At b i) = Program (place geo b (entryWord geo i)) (cleared (entry geo image b i) currentBit) ∷ []
-  outdates image Nothing = []
+  outdates image old = programsEntry old (cleared (entryAt image old) currentBit)
 
   -- "(c) 128 content words, ascending"
   abbrev pub storesContents : ℕ → ℕ → List ℕ → List Step
@@ -39,9 +54,7 @@ module _ (geo : Geometry) where
 
   -- "(f) if (b) was done, the old entry with bits 30 and 31 cleared"
   abbrev pub retires : Image → Found → List Step
-  retires image (At b i) =
-      Program (place geo b (entryWord geo i)) (cleared (cleared (entry geo image b i) currentBit) validBit) ∷ []
-  retires image Nothing = []
+  retires image old = programsEntry old (cleared (cleared (entryAt image old) currentBit) validBit)
 
   -- "the least and .. the greatest number now live in the block"
   unfoldable pub leastLive : Image → ℕ → ℕ
@@ -49,6 +62,9 @@ module _ (geo : Geometry) where
 
   unfoldable pub greatestLive : Image → ℕ → ℕ
   greatestLive image b = lastBelow (geo .logical) (liveIn geo image b)
+
+  abbrev pub liveBounds : Image → ℕ → LiveBounds
+  liveBounds image b = record { least = leastLive image b; greatest = greatestLive image b }
 
   -- "(g) if this took the block's last free slot, word 1 with the least and word 2 with the greatest number now live in the block"
   unfoldable pub closesBlock : Image → ℕ → List Step
@@ -75,8 +91,7 @@ module _ (geo : Geometry) where
 
   -- "Release programs the live entry with bit 31 cleared: one word."
   abbrev pub invalidates : Image → Found → List Step
-  invalidates image (At b i) = Program (place geo b (entryWord geo i)) (cleared (entry geo image b i) validBit) ∷ []
-  invalidates image Nothing = []
+  invalidates image live = programsEntry live (cleared (entryAt image live) validBit)
 
   unfoldable pub releasing : Image → ℕ → List Step
   releasing image n = invalidates image (find geo image n)

@@ -1,6 +1,8 @@
 -- The two kinds of step, what each does to an image, and how many of each a list of steps has.
+use mathlib.Core.Bool.{Bool, true, _&&_}
 use mathlib.Core.List.{List, [], _∷_, _++_}
 use Prim.Native.Nat.{ℕ, suc, _+_}
+use lib.Dec.{eqb}
 use lib.ListN.{set, take, drop, replicate}
 use Rattle.bits.specs.Word.{ones, programmed}
 use Rattle.geometry.specs.declared.Geometry.{Geometry}
@@ -20,9 +22,13 @@ unfoldable pub erasedBlock : Geometry → Image → ℕ → Image
 erasedBlock geo image b =
     take (place geo b 0) image ++ (replicate (blockLength geo) ones ++ drop (place geo b (blockLength geo)) image)
 
+-- the word at a place programmed: "the new word is the old one and the asked one, bit by bit"
+abbrev pub programmedAt : Image → ℕ → ℕ → Image
+programmedAt image p w = set image p (programmed (word image p) w)
+
 -- "programs one word (the new word is the old one and the asked one, bit by bit) or erases one block"
 unfoldable pub applied : Geometry → Image → Step → Image
-applied geo image (Program p w) = set image p (programmed (word image p) w)
+applied geo image (Program p w) = programmedAt image p w
 applied geo image (Erase b) = erasedBlock geo image b
 
 -- the image after the steps, in their order
@@ -40,3 +46,11 @@ unfoldable pub erasuresIn : List Step → ℕ
 erasuresIn [] = 0
 erasuresIn (Program p w ∷ ss) = erasuresIn ss
 erasuresIn (Erase b ∷ ss) = suc (erasuresIn ss)
+
+-- "In (a) to (g), in release and in the count after an erase, the word left is exactly the asked one.": each step that programs
+-- a word leaves the asked word at its place
+unfoldable pub leavesAsked : Geometry → Image → List Step → Bool
+leavesAsked geo image [] = true
+leavesAsked geo image (Program p w ∷ ss) =
+    eqb (word (applied geo image (Program p w)) p) w && leavesAsked geo (applied geo image (Program p w)) ss
+leavesAsked geo image (Erase b ∷ ss) = leavesAsked geo (applied geo image (Erase b)) ss

@@ -1,1 +1,8 @@
-// Nothing runs here yet: the crate is its definitions (specs/).
+// What changes an image: the two kinds of step, and placing, releasing and reclaiming as lists of them.
+// Each function leaves the image that running the defined list of steps leaves, and counts its steps.
+
+// The least and the greatest number live in a block; L for both where none is.
+pub struct LiveBounds {
+    pub least: u32,
+    pub greatest: u32,
+}

@@ -5,6 +5,7 @@ use lib.Dec.{ltb, eqb}
 use Rattle.ranges.specs.Range.{allBelow, anyBelow, countBelow, bestBelow, firstBelow}
 use Rattle.geometry.specs.declared.Geometry.{Geometry}
 use Rattle.geometry.specs.Geometry.{d}
+use Rattle.image.specs.declared.Tally.{Tally}
 use Rattle.image.specs.Words.{Image, eraseCount}
 use Rattle.image.specs.Slots.{slot, isFree, isLive, isDead}
 
@@ -28,6 +29,9 @@ module _ (geo : Geometry) (image : Image) where
 
   abbrev pub deadSlots : ℕ → ℕ
   deadSlots b = countBelow (d geo) (λ i. isDead (slot geo image b i))
+
+  abbrev pub tally : ℕ → Tally
+  tally b = record { free = freeSlots b; live = liveSlots b; dead = deadSlots b }
 
   -- "the lowest free slot" of a block; d where there is none
   unfoldable pub lowestFree : ℕ → ℕ

@@ -2,7 +2,7 @@
 use mathlib.Core.Bool.{Bool}
 use mathlib.Core.List.{List}
 use mathlib.Core.Path.{_≡_}
-use Prim.Native.Nat.{ℕ, _%_}
+use Prim.Native.Nat.{ℕ, _%_, _^_, _<_}
 use lib.ListN.{length, getD, take, drop}
 use Rattle.bits.specs.Word.{isSet}
 use Rattle.geometry.specs.declared.Geometry.{Geometry}
@@ -12,6 +12,10 @@ use Rattle.geometry.specs.Places.{place, eraseWord, leastWord, greatestWord, ma
 -- "a lent image of 32-bit words"
 abbrev pub Image : Type 0
 Image = List ℕ
+
+-- its words are of 32 bits
+pub record Words32 (ws : List ℕ) : Type 0 where
+  pub small : (p : ℕ) → getD ws p 0 < 2 ^ 32
 
 -- an image of the length that its geometry, within the limits, says: what row 1 of the refusals leaves
 pub record Shaped (geo : Geometry) (image : Image) : Type 0 where

@@ -1,3 +1,7 @@
+// What an image says: its slots and blocks, where a number is live, and whether the image is well formed.
+// Nothing here changes a word.
+pub mod slots;
+
 // What an entry says of its slot.
 pub enum Slot {
     Free,
@@ -10,4 +14,11 @@ pub enum Slot {
 pub enum Found {
     At(usize, usize),
     Nothing,
+}
+
+// How many slots of a block are free, live and dead.
+pub struct Tally {
+    pub free: usize,
+    pub live: usize,
+    pub dead: usize,
 }

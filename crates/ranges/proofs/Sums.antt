@@ -1,10 +1,10 @@
 -- The laws of `sumBelow` and `countBelow`. Assumes nothing.
-use Prim.Native.Nat.{ℕ, zero, suc, _+_, _*_, _≤_, _<_}
+use Prim.Native.Nat.{ℕ, zero, suc, _+_, _-_, _*_, _≤_, _<_}
 use mathlib.Core.Path.{_≡_, refl, sym, ap, _∙_}
 use mathlib.Core.Logic.{_⊎_, inl, inr, ⊎-elim, _≢_}
-use mathlib.Core.Bool.{Bool, true, false, not, cond}
+use mathlib.Core.Bool.{Bool, true, false, not, cond, true≢false}
 use native.Mathlib.Nat.{eq-zero-or-pos, le-step, lt-suc-self, add-zero, add-suc, not-le-of-lt}
-use native.Mathlib.Decide.{decLt}
+use native.Mathlib.Decide.{ℕ-discrete}
 use native.Mathlib.Omega.{arith}
 use lib.Dec.{eqb}
 use borrow.Author.Tests.{eq-eqb, ne-eqb, eqb-true, eqb-false}
@@ -37,6 +37,12 @@ unfolding sumBelow
 sum-const zero c = omega arith
 sum-const (suc m) c = omega (arith, sum-const m c)
 
+-- a factor comes out
+pub sum-scale : (m c : ℕ) (f : ℕ → ℕ) → sumBelow m (λ i. c * f i) ≡ c * sumBelow m f
+unfolding sumBelow
+sum-scale zero c f = omega arith
+sum-scale (suc m) c f = omega (arith, sum-scale m c f)
+
 -- the order of a double sum is free
 pub sum-swap : (m n : ℕ) (f : ℕ → ℕ → ℕ) → sumBelow m (λ i. sumBelow n (λ j. f i j)) ≡ sumBelow n (λ j. sumBelow m (λ i. f i j))
 unfolding sumBelow
@@ -57,7 +63,13 @@ unfolding sumBelow
 sum-cut m zero f = ap (λ (n : ℕ). sumBelow n f) (add-zero m) ∙ sym (add-zero (sumBelow m f))
 sum-cut m (suc n) f = ap (λ (n : ℕ). sumBelow n f) (add-suc m n) ∙ omega (arith, sum-cut m n f)
 
--- ---- one term, or two, changed
+-- fewer terms
+pub sum-prefix : {m n : ℕ} (f : ℕ → ℕ) → m ≤ n → sumBelow m f ≤ sumBelow n f
+sum-prefix {m} {n} f l =
+    let whole : m + (n - m) ≡ n = omega arith in
+    omega (arith, sum-cut m (n - m) f, ap (λ (x : ℕ). sumBelow x f) whole)
+
+-- ---- a term changed
 
 -- a change at one index changes the sum by as much
 pub sum-update :
@@ -69,6 +81,28 @@ sum-update (suc m) {x} {f} {f'} l same =
     (λ e. rw e (omega (arith, sum-ext m (λ i k. same i (omega arith) (omega arith)))))
     (λ k. omega (arith, sum-update m k (λ i j. same i (omega arith)), same m (lt-suc-self m) (omega arith)))
     (below-suc l)
+
+-- a change at two indices
+pub sum-update-two :
+    (m : ℕ) {x y : ℕ} {f f' : ℕ → ℕ} →
+    x < m →
+    y < m →
+    x ≢ y →
+    ((i : ℕ) → i < m → i ≢ x → i ≢ y → f' i ≡ f i) →
+    sumBelow m f' + (f x + f y) ≡ sumBelow m f + (f' x + f' y)
+sum-update-two m {x} {y} {f} {f'} l k ne same =
+    let first = sum-update m {f = f} {f' = half} l (λ i q e. rw (ne-eqb i x e)) in
+    let second = sum-update m {f = half} {f' = f'} k (λ i q e. go i q e (eqb i x) refl) in
+    let at-x : half x ≡ f' x = rw (eq-eqb x x refl) in
+    let at-y : half y ≡ f y = rw (ne-eqb y x (λ e. ne (sym e))) in
+    omega arith
+  where
+    half : ℕ → ℕ
+    half i = cond (eqb i x) (f' x) (f i)
+
+    go : (i : ℕ) → i < m → i ≢ y → (b : Bool) → eqb i x ≡ b → f' i ≡ half i
+    go i q e true t = rw (t, eqb-true i x t)
+    go i q e false t = rw t (same i q (eqb-false i x t) e)
 
 -- the same for a double sum, changed at one pair of indices
 pub sum-pairs-update :
@@ -200,6 +234,61 @@ count-pairs-at-most-one m n f one =
     let r = count-positive n (f i) u in
     let r' = count-positive n (f i') v in
     one i i' (r .0) (r' .0) l l' (r .1) (r' .1) (r .2) (r' .2) .0)
+
+-- a test that passes at one index alone
+pub count-one : (m : ℕ) (f : ℕ → Bool) {i j : ℕ} → countBelow m f ≡ 1 → i < m → j < m → f i ≡ true → f j ≡ true → i ≡ j
+count-one m f {i} {j} one l h e e' = go (ℕ-discrete i j)
+  where
+    rest : ℕ → Bool
+    rest x = cond (eqb x i) false (f x)
+
+    go : Dec (i ≡ j) → i ≡ j
+    go (yes q) = q
+    go (no n) =
+        let at-i : one-if (rest i) ≡ 0 = rw (eq-eqb i i refl) in
+        let change =
+        sum-update m {f = λ x. one-if (f x)} {f' = λ x. one-if (rest x)} l (λ x q ne. rw (ne-eqb x i ne)) in
+        let none = count-fails m rest (omega (arith, ap one-if e)) j h in
+        let still : rest j ≡ true = rw (ne-eqb j i (λ q. n (sym q))) e' in
+        absurd (true≢false (sym still ∙ none))
+
+-- two indices
+pub record Two (m : ℕ) (f : ℕ → Bool) : Type 0 where
+  pub one : ℕ
+  pub other : ℕ
+  pub one-below : one < m
+  pub other-below : other < one
+  pub one-passes : f one ≡ true
+  pub other-passes : f other ≡ true
+
+pub count-two : (m : ℕ) (f : ℕ → Bool) → 2 ≤ countBelow m f → Two m f
+unfolding sumBelow
+count-two zero f h = absurd (omega arith)
+count-two (suc m) f h = go (f m) refl (count-two m f)
+  where
+    go : (b : Bool) → f m ≡ b → (2 ≤ countBelow m f → Two m f) → Two (suc m) f
+    go true e before =
+        let r = count-positive m f (omega (arith, ap one-if e)) in
+        record { one = m; other = r .0; one-below = lt-suc-self m; other-below = r .1; one-passes = e; other-passes = r .2 }
+    go false e before =
+        let t = before (omega (arith, ap one-if e)) in
+        record {
+          one = t .one;
+          other = t .other;
+          one-below = le-step (t .one-below);
+          other-below = t .other-below;
+          one-passes = t .one-passes;
+          other-passes = t .other-passes;
+        }
+
+-- a test that fails below a and passes from a on
+pub count-from :
+    (m a : ℕ) {f : ℕ → Bool} → a ≤ m → ((i : ℕ) → i < a → f i ≡ false) → ((i : ℕ) → a ≤ i → i < m → f i ≡ true) → countBelow m f + a ≡ m
+count-from m a {f} l before behind =
+    let whole : a + (m - a) ≡ m = omega arith in
+    let low = count-none a before in
+    let high = count-every (m - a) {f = λ i. f (a + i)} (λ i h. behind (a + i) (omega arith) (omega arith)) in
+    omega (arith, sum-cut a (m - a) (λ i. one-if (f i)), ap (λ (n : ℕ). countBelow n f) whole)
 
 -- ---- counts and tests of the range: each says the other
 

@@ -1,0 +1,2 @@
+pub mod FreeMap
+pub mod Choosing

@@ -1,0 +1,106 @@
+-- `image::blocks::least_worn_blank` meets its contract: `best` is the definition's answer for the blocks passed.
+use mathlib.Core.Path.{_≡_, refl, sym, ap, ap₂, _∙_}
+use mathlib.Core.Bool.{_&&_}
+use mathlib.Core.Logic.{⊎-elim}
+use Prim.Native.Nat.{_-_, _≤_}
+use native.Mathlib.Omega.{arith}
+use native.Mathlib.Numerals.{add-one}
+use borrow.Author.Tests.{lt-ltb, le-ltb}
+use borrow.Author.Needs.{needs}
+use Rattle.ranges.specs.Range.{bestBelow}
+use Rattle.ranges.proofs.Searches.{best-found, best-missing, best-beaten, best-stays, best-le}
+use Rattle.image.specs.Words.{eraseCount}
+use Rattle.image.specs.Blocks.{blank, lessWorn, leastWornBlank}
+use Rattle.blocks.proofs.FreeMap.{blank-by}
+use Rattle.blocks.proofs.least_worn_blank.Statement.{statement}
+use Rattle.blocks.proofs.least_worn_blank.Tie as tie
+
+abbrev Inv-loop : tie.InvT-loop
+Inv-loop image geo blocks d best₀ b₀ best b = (b ≤ blocks) × (best ≡ bestBelow (lessWorn geo image) b (blank geo image))
+
+abbrev μ-loop : tie.MeasureT-loop
+μ-loop image geo blocks d best₀ b₀ best b = blocks - b
+
+cast-blocks : tie.Need-cast-blocks Inv-loop μ-loop
+cast-blocks c = search needs
+
+d-requires : tie.Need-d-requires Inv-loop μ-loop
+d-requires c κs = search needs
+
+loop-holds : tie.Need-loop-holds Inv-loop μ-loop
+unfolding bestBelow
+loop-holds c = (omega arith, refl)
+
+free-slots-requires : tie.Need-free-slots-requires Inv-loop μ-loop
+free-slots-requires c κs =
+    let start = c .before .before .before .before .before in
+    (start .pre .0, (omega arith, start .pre .1 .agrees (c .before .loop .b) (omega arith)))
+
+erase-count-requires : tie.Need-erase-count-requires Inv-loop μ-loop
+erase-count-requires c κs = search needs
+
+erase-count-requires-2 : tie.Need-erase-count-requires-2 Inv-loop μ-loop
+erase-count-requires-2 c κs = search needs
+
+add-best : tie.Need-add-best Inv-loop μ-loop
+add-best c = search needs
+
+add-b : tie.Need-add-b Inv-loop μ-loop
+add-b c = search needs
+
+loop-less : tie.Need-loop-less Inv-loop μ-loop
+loop-less c = search needs
+
+loop-again : tie.Need-loop-again Inv-loop μ-loop
+loop-again c =
+    let turn = c .before .before in
+    let start = turn .before .before .before .before .before in
+    let geo = start .args .geo in
+    let image = start .args .image .now in
+    let l = turn .before .loop in
+    let is = blank-by geo image (l .b) _ _ (c .before .free-slots .ensures) (turn .before .before .d .ensures) in
+    let wear = eraseCount geo image in
+    let so-far = bestBelow (lessWorn geo image) (l .b) (blank geo image) in
+    let most = best-le (lessWorn geo image) (l .b) (blank geo image) in
+    let same = ap wear (l .inv .1) in (
+      omega arith,
+      rw add-one
+          (⊎-elim
+          (λ w.
+          let less = lt-ltb (wear (l .b)) (wear so-far) (omega arith) in
+          w .5 ∙ sym (best-beaten _ _ _ (omega arith) (is ∙ w .1 .taken) less))
+          (⊎-elim
+          (λ w.
+          let more = le-ltb (wear (l .b)) (wear so-far) (omega arith) in
+          w .5 ∙ l .inv .1 ∙ sym (best-stays _ _ _ (omega arith) (ap₂ _&&_ (is ∙ w .1 .taken) more)))
+          (⊎-elim
+          (λ w. w .2 ∙ l .inv .1 ∙ sym (best-stays _ _ _ (omega arith) (rw (is ∙ w .1 .left))))
+          (⊎-elim
+          (λ w. w .2 ∙ sym (best-found _ _ _ (omega arith) (is ∙ w .1 .taken)))
+          (λ w. w .2 ∙ add-one _ ∙ sym (best-missing _ _ _ (omega arith) (is ∙ w .1 .left))))))
+          (c .if1 .came)),
+    )
+
+returns : tie.Need-returns Inv-loop μ-loop
+unfolding leastWornBlank
+returns c =
+    let e : c .before .loop .b ≡ c .before .before .before .before .before .args .geo .blocks = omega arith in
+    rw e at (c .before .loop .inv .1)
+
+pub least-worn-blank-spec : {M : Type 1} → statement M
+least-worn-blank-spec =
+    tie.close
+    (tie.spec
+    Inv-loop
+    μ-loop
+    cast-blocks
+    d-requires
+    loop-holds
+    free-slots-requires
+    erase-count-requires
+    erase-count-requires-2
+    add-best
+    add-b
+    loop-less
+    loop-again
+    returns)

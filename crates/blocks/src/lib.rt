@@ -1,0 +1,187 @@
+// What the slots of a block say of it, and the blocks that a write chooses by them.
+ghost use mathlib.Core.Bool.{true};
+ghost use mathlib.Core.Path.{_≡_};
+ghost use Prim.Native.Nat.{ℕ, _<_};
+ghost use Rattle.ranges.specs.Range.{countBelow};
+ghost use Rattle.image.specs.Words.{Shaped, eraseCount};
+ghost use Rattle.image.specs.Blocks.{blank, tally, freeSlots, lowestFree, lowestOpen, leastWornBlank, victim};
+ghost use Rattle.image.specs.WellFormed.{R2, MapsAgree};
+use geometry::Geometry;
+use image::Slot;
+use image::Tally;
+use image::slots::slot_of;
+
+// The erase count of block b.
+pub fn erase_count(image: &[u32], geo: Geometry, b: usize) -> u32
+    requires { ⌜ Shaped geo (now image) ⌝ }
+    requires { ⌜ b < geo .blocks ⌝ }
+    ensures { λ r. ⌜ r ≡ eraseCount geo (now (image .entry)) b ⌝ }
+{
+    let at = geo.start(b);
+    image[at]
+}
+
+// The free, live and dead slots of block b, by its entries.
+pub fn tally(image: &[u32], geo: Geometry, b: usize) -> Tally
+    requires { ⌜ Shaped geo (now image) ⌝ }
+    requires { ⌜ b < geo .blocks ⌝ }
+    ensures { λ r. ⌜ r ≡ tally geo (now (image .entry)) b ⌝ }
+{
+    let d = geo.d();
+    let logical = geo.logical;
+    let base = geo.entries_start(b);
+    let mut free = 0usize;
+    let mut live = 0usize;
+    let mut dead = 0usize;
+    for i in 0..d {
+        match slot_of(logical, image[base + i]) {
+            Slot::Free => {
+                free += 1;
+            }
+            Slot::Live(_) => {
+                live += 1;
+            }
+            Slot::Dead => {
+                dead += 1;
+            }
+            Slot::Faulty => {}
+        }
+    }
+    Tally { free, live, dead }
+}
+
+// The free slots of block b, by a count of ones: the map's words have a one for each, and ones from d on.
+pub fn free_slots(image: &[u32], geo: Geometry, b: usize) -> usize
+    requires { ⌜ Shaped geo (now image) ⌝ }
+    requires { ⌜ b < geo .blocks ⌝ }
+    requires { ⌜ R2 geo (now image) b ≡ true ⌝ }
+    ensures { λ r. ⌜ r ≡ freeSlots geo (now (image .entry)) b ⌝ }
+{
+    let d = geo.d();
+    let k = geo.k();
+    let base = geo.map_start(b);
+    let mut total = 0usize;
+    for m in 0..k {
+        total += bits::count_set(image[base + m]) as usize;
+    }
+    total - (k * 32 - d)
+}
+
+// The lowest free slot of block b, by the trailing zeros of a map word; d where none is free.
+pub fn lowest_free(image: &[u32], geo: Geometry, b: usize) -> usize
+    requires { ⌜ Shaped geo (now image) ⌝ }
+    requires { ⌜ b < geo .blocks ⌝ }
+    requires { ⌜ R2 geo (now image) b ≡ true ⌝ }
+    ensures { λ r. ⌜ r ≡ lowestFree geo (now (image .entry)) b ⌝ }
+{
+    let d = geo.d();
+    let k = geo.k();
+    let base = geo.map_start(b);
+    for m in 0..k {
+        let z = bits::lowest_set(image[base + m]) as usize;
+        if z < 32 {
+            let i = m * 32 + z;
+            if i < d {
+                return i;
+            }
+            return d;
+        }
+    }
+    d
+}
+
+// The lowest-numbered open block; B where none is open.
+pub fn lowest_open(image: &[u32], geo: Geometry) -> usize
+    requires { ⌜ Shaped geo (now image) ⌝ }
+    requires { ⌜ MapsAgree geo (now image) ⌝ }
+    ensures { λ r. ⌜ r ≡ lowestOpen geo (now (image .entry)) ⌝ }
+{
+    let blocks = geo.blocks as usize;
+    let d = geo.d();
+    for b in 0..blocks {
+        let free = free_slots(image, geo, b);
+        if 0 < free {
+            if free < d {
+                return b;
+            }
+        }
+    }
+    blocks
+}
+
+// How many blocks are blank.
+pub fn count_blank(image: &[u32], geo: Geometry) -> usize
+    requires { ⌜ Shaped geo (now image) ⌝ }
+    requires { ⌜ MapsAgree geo (now image) ⌝ }
+    ensures { λ r. ⌜ r ≡ countBelow (geo .blocks) (blank geo (now (image .entry))) ⌝ }
+{
+    let blocks = geo.blocks as usize;
+    let d = geo.d();
+    let mut count = 0usize;
+    for b in 0..blocks {
+        if free_slots(image, geo, b) == d {
+            count += 1;
+        }
+    }
+    count
+}
+
+// The blank block with the least erase count, the lowest-numbered on a tie; B where none is blank.
+pub fn least_worn_blank(image: &[u32], geo: Geometry) -> usize
+    requires { ⌜ Shaped geo (now image) ⌝ }
+    requires { ⌜ MapsAgree geo (now image) ⌝ }
+    ensures { λ r. ⌜ r ≡ leastWornBlank geo (now (image .entry)) ⌝ }
+{
+    let blocks = geo.blocks as usize;
+    let d = geo.d();
+    // none so far: the number of the blocks passed
+    let mut best = 0usize;
+    for b in 0..blocks {
+        let blank = free_slots(image, geo, b) == d;
+        if best < b {
+            if blank {
+                if erase_count(image, geo, b) < erase_count(image, geo, best) {
+                    best = b;
+                }
+            }
+        } else if blank {
+            best = b;
+        } else {
+            best = b + 1;
+        }
+    }
+    best
+}
+
+// The full block with most dead slots, then the least erase count, then the lowest number; B where none is full.
+pub fn victim(image: &[u32], geo: Geometry) -> usize
+    requires { ⌜ Shaped geo (now image) ⌝ }
+    ensures { λ r. ⌜ r ≡ victim geo (now (image .entry)) ⌝ }
+{
+    let blocks = geo.blocks as usize;
+    let mut best = 0usize;
+    let mut most = 0usize;
+    for b in 0..blocks {
+        let slots = tally(image, geo, b);
+        let dead = slots.dead;
+        let full = slots.free == 0;
+        if best < b {
+            if full {
+                if most < dead {
+                    best = b;
+                    most = dead;
+                } else if most == dead {
+                    if erase_count(image, geo, b) < erase_count(image, geo, best) {
+                        best = b;
+                    }
+                }
+            }
+        } else if full {
+            best = b;
+            most = dead;
+        } else {
+            best = b + 1;
+        }
+    }
+    best
+}

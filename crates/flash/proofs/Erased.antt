@@ -1,0 +1,296 @@
+-- The erasing of a block: what every reading of the image is afterwards, and that the image stays sound where the block had no
+-- live slot. Assumes nothing.
+use mathlib.Core.Path.{_≡_, refl, sym, ap, ap₂, _∙_}
+use mathlib.Core.Logic.{_≢_, _⊎_, inl, inr, ⊎-elim}
+use mathlib.Core.Bool.{Bool, true, false, not, true≢false}
+use mathlib.Core.List.{List, [], _∷_, _++_}
+use Prim.Native.Nat.{ℕ, _+_, _-_, _*_, _/_, _%_, _^_, _<_, _≤_}
+use native.Mathlib.Nat.{mul-le-mul-right}
+use native.Mathlib.Decide.{decLt, ℕ-discrete}
+use native.Mathlib.Omega.{arith}
+use lib.ListN.{length, getD, take, drop, replicate, length-append, length-take, length-drop, length-replicate, getD-replicate, List·getD-append}
+use lib.Seq.{getD-take, getD-drop, getD-append-add, length-take-le}
+use Rattle.ranges.proofs.Tests.{all-of, any-of, any-ext}
+use Rattle.bits.specs.Word.{ones, isSet, programmed}
+use Rattle.bits.proofs.Bit.{set-bit, ones-bit}
+use Rattle.bits.proofs.Programming.{ones-leave}
+use Rattle.geometry.specs.declared.Geometry.{Geometry}
+use Rattle.geometry.specs.Geometry.{Limits, d, k, blockLength, imageLength, sectorWords}
+use Rattle.geometry.specs.Places.{place, eraseWord, leastWord, greatestWord, mapWord, entryWord, contentWord}
+use Rattle.geometry.proofs.Laws.{d-positive, management-inside, management-fits, map-word-inside, map-covers, entry-word-inside, content-word-inside, content-word-after}
+use Rattle.image.specs.declared.Slot.the-variants.{Free, Live}
+use Rattle.image.specs.Words.{Image, Shaped, Words32, word, eraseCount, leastMapped, greatestMapped, freeMap, mapBit, entry, contents}
+use Rattle.image.specs.Slots.{slotOf, slot, isFree, isFaulty, mapOf}
+use Rattle.image.specs.Blocks.{blank, full}
+use Rattle.image.specs.WellFormed.{ceiling}
+use Rattle.image.proofs.Entries.{free-slot}
+use Rattle.image.proofs.Reading.{block-room, word-inside}
+use Rattle.image.proofs.Facts.{Sound}
+use Rattle.image.proofs.Finding.{map-same}
+use Rattle.image.proofs.Places.{apart, contents-at, contents-are, contents-long}
+use Rattle.flash.specs.Steps.{Step, Program, Erase, erasedBlock, applied, run, leavesAsked}
+use Rattle.flash.proofs.Stores.{Exact, lastAsked, last-here, last-other, exact-one, run-words}
+use Rattle.flash.proofs.Filling.{Ready}
+use Rattle.flash.proofs.Kept.{free-not-live}
+use Rattle.flash.proofs.Counts.{no-erasure}
+
+module _ (geo : Geometry) (image : Image) (shaped : Shaped geo image) (v : ℕ) (block : v < geo .blocks) where
+  abbrev before : List ℕ
+  before = take (place geo v 0) image
+
+  abbrev cleared-block : List ℕ
+  cleared-block = replicate (blockLength geo) ones
+
+  abbrev behind : List ℕ
+  behind = drop (place geo v (blockLength geo)) image
+
+  room : place geo v (blockLength geo) ≤ length image
+  room = omega (arith, block-room geo image shaped v block)
+
+  before-long : length before ≡ place geo v 0
+  before-long = length-take-le (place geo v 0) image (omega (arith, room))
+
+  pub erased-long : length (erasedBlock geo image v) ≡ length image
+  unfolding erasedBlock
+  erased-long =
+      simp (length-append, length-replicate, length-drop) (omega (arith, before-long, room))
+
+  -- in the block
+  pub erased-inside : (j : ℕ) → j < blockLength geo → word (erasedBlock geo image v) (place geo v j) ≡ ones
+  unfolding erasedBlock
+  erased-inside j l =
+      let at : place geo v j ≡ length before + j = omega (arith, before-long) in
+      ap (λ (q : ℕ). getD (before ++ (cleared-block ++ behind)) q 0) at
+      ∙ getD-append-add before (cleared-block ++ behind) j 0
+      ∙ List·getD-append cleared-block behind 0 j (omega (arith, length-replicate (blockLength geo) ones))
+      ∙ getD-replicate (blockLength geo) j ones 0 l
+
+  -- before it, and behind it
+  erased-before : (q : ℕ) → q < place geo v 0 → word (erasedBlock geo image v) q ≡ word image q
+  unfolding erasedBlock
+  erased-before q l =
+      List·getD-append before (cleared-block ++ behind) 0 q (omega (arith, before-long)) ∙ getD-take (place geo v 0) image q 0 l
+
+  erased-behind : (q : ℕ) → place geo v (blockLength geo) ≤ q → word (erasedBlock geo image v) q ≡ word image q
+  unfolding erasedBlock
+  erased-behind q l =
+      let rest : ℕ = q - place geo v (blockLength geo) in
+      let size = length-replicate (blockLength geo) ones in
+      let at : q ≡ length before + (length cleared-block + rest) = omega (arith, before-long) in
+      let back : place geo v (blockLength geo) + rest ≡ q = omega arith in
+      ap (λ (x : ℕ). getD (before ++ (cleared-block ++ behind)) x 0) at
+      ∙ getD-append-add before (cleared-block ++ behind) (length cleared-block + rest) 0
+      ∙ getD-append-add cleared-block behind rest 0
+      ∙ getD-drop (place geo v (blockLength geo)) image rest 0
+      ∙ ap (word image) back
+
+  pub erased-outside : (c j : ℕ) → c ≢ v → j < blockLength geo → word (erasedBlock geo image v) (place geo c j) ≡ word image (place geo c j)
+  erased-outside c j n l = go (decLt c v)
+    where
+      go : Dec (c < v) → word (erasedBlock geo image v) (place geo c j) ≡ word image (place geo c j)
+      go (yes h) = erased-before (place geo c j) (omega (arith, mul-le-mul-right (blockLength geo) h))
+      go (no h) =
+          let more : v < c = omega arith in
+          erased-behind (place geo c j) (omega (arith, mul-le-mul-right (blockLength geo) more))
+
+  -- every word is one of the old ones, or ones
+  pub erased-words : Words32 image → Words32 (erasedBlock geo image v)
+  erased-words h = record { small = λ q. go q (decLt q (place geo v 0)) (decLt q (place geo v (blockLength geo))) }
+    where
+      go : (q : ℕ) → Dec (q < place geo v 0) → Dec (q < place geo v (blockLength geo)) → word (erasedBlock geo image v) q < 2 ^ 32
+      go q (yes l) m = rw (erased-before q l) (h .small q)
+      go q (no l) (no m) = rw (erased-behind q (omega arith)) (h .small q)
+      go q (no l) (yes m) =
+          let at : q ≡ place geo v (q - place geo v 0) = omega arith in
+          rw (at, erased-inside (q - place geo v 0) (omega arith)) (omega arith)
+
+-- ---- the block erased and its count programmed
+
+module _ (geo : Geometry) (image : Image) (ready : Ready geo image) (v w : ℕ) (block : v < geo .blocks) (fits : w ≤ ceiling) where
+  within : Limits geo
+  within = ready .shaped .limits
+
+  abbrev steps : List Step
+  steps = Erase v ∷ Program (place geo v eraseWord) w ∷ []
+
+  abbrev bare : Image
+  bare = erasedBlock geo image v
+
+  abbrev wiped : Image
+  wiped = run geo image steps
+
+  low-in : {j : ℕ} → j < sectorWords → j < blockLength geo
+  low-in l = management-inside geo within (omega arith)
+
+  count-exact : Exact geo bare (Program (place geo v eraseWord) w ∷ [])
+  count-exact =
+      exact-one geo bare (place geo v eraseWord) w
+      (omega (arith, erased-long geo image (ready .shaped) v block, word-inside geo image (ready .shaped) block (low-in {j = 0} (omega arith))))
+      (ap (λ (x : ℕ). programmed x w) (erased-inside geo image (ready .shaped) v block eraseWord (low-in (omega arith))) ∙ ones-leave w (omega arith))
+
+  last-image : wiped ≡ run geo bare (Program (place geo v eraseWord) w ∷ [])
+  unfolding run applied
+  last-image = refl
+
+  pub erasing-asked : leavesAsked geo image steps ≡ true
+  unfolding leavesAsked applied
+  erasing-asked = count-exact .asked
+
+  pub wiped-long : length wiped ≡ length image
+  wiped-long = ap length last-image ∙ count-exact .long ∙ erased-long geo image (ready .shaped) v block
+
+  wiped-word : (q : ℕ) → word wiped q ≡ lastAsked (Program (place geo v eraseWord) w ∷ []) q (word bare q)
+  wiped-word q = ap (λ (x : Image). word x q) last-image ∙ count-exact .words q
+
+  wiped-inside : (j : ℕ) → j < blockLength geo → j ≢ eraseWord → word wiped (place geo v j) ≡ ones
+  wiped-inside j l n =
+      wiped-word (place geo v j)
+      ∙ last-other w (word bare (place geo v j)) (apart geo l (low-in (omega arith)) (λ p e. n e))
+      ∙ erased-inside geo image (ready .shaped) v block j l
+
+  wiped-outside : (c j : ℕ) → c ≢ v → j < blockLength geo → word wiped (place geo c j) ≡ word image (place geo c j)
+  wiped-outside c j n l =
+      wiped-word (place geo c j)
+      ∙ last-other w (word bare (place geo c j)) (apart geo l (low-in (omega arith)) (λ p e. n p))
+      ∙ erased-outside geo image (ready .shaped) v block c j n l
+
+  wiped-shaped : Shaped geo wiped
+  wiped-shaped = record { limits = within; long = wiped-long ∙ ready .shaped .long }
+
+  pub wiped-words : Words32 wiped
+  wiped-words =
+      rw last-image (run-words geo bare (Program (place geo v eraseWord) w ∷ []) (no-erasure (place geo v eraseWord) w) (erased-words geo image (ready .shaped) v block (ready .words)))
+
+  -- ---- each reading
+
+  map-in : {j : ℕ} → j < 32 * k geo → mapWord j < blockLength geo
+  map-in {j} l =
+      management-inside geo within (omega (arith, map-word-inside geo within {i = j} l, management-fits geo within))
+
+  entry-in : {j : ℕ} → j < d geo → entryWord geo j < blockLength geo
+  entry-in l = management-inside geo within (entry-word-inside geo within l)
+
+  pub wiped-count : eraseCount geo wiped v ≡ w
+  unfolding eraseCount
+  wiped-count = wiped-word (place geo v eraseWord) ∙ last-here (place geo v eraseWord) w (word bare (place geo v eraseWord))
+
+  pub wiped-count-other : (c : ℕ) → c ≢ v → eraseCount geo wiped c ≡ eraseCount geo image c
+  unfolding eraseCount
+  wiped-count-other c n = wiped-outside c eraseWord n (low-in (omega arith))
+
+  pub wiped-free : (j : ℕ) → j < d geo → slot geo wiped v j ≡ Free
+  unfolding slot entry
+  wiped-free j l =
+      ap (slotOf (geo .logical)) (wiped-inside (entryWord geo j) (entry-in l) (λ e. omega arith))
+      ∙ free-slot (geo .logical) ones (omega arith) refl
+
+  pub wiped-slot : (c j : ℕ) → c ≢ v → j < d geo → slot geo wiped c j ≡ slot geo image c j
+  unfolding slot entry
+  wiped-slot c j n l = ap (slotOf (geo .logical)) (wiped-outside c (entryWord geo j) n (entry-in l))
+
+  pub wiped-contents : (c j : ℕ) → c < geo .blocks → c ≢ v → j < d geo → contents geo wiped c j ≡ contents geo image c j
+  wiped-contents c j l n h =
+      contents-are geo wiped c j (contents geo image c j) wiped-shaped l h (contents-long geo image (ready .shaped) l h)
+      (λ m q. wiped-outside c (contentWord geo j m) n (content-word-inside geo within h q) ∙ sym (contents-at geo image c j m q))
+
+  map-of-v : (j : ℕ) → j < 32 * k geo → mapBit geo wiped v j ≡ true
+  unfolding freeMap
+  map-of-v j l =
+      ap (λ (x : ℕ). isSet x (j % 32)) (wiped-inside (mapWord j) (map-in l) (λ e. omega arith))
+      ∙ set-bit ones (j % 32) (ones-bit 32 (j % 32) (omega arith))
+
+  map-of-other : (c j : ℕ) → c ≢ v → j < 32 * k geo → mapBit geo wiped c j ≡ mapBit geo image c j
+  unfolding freeMap
+  map-of-other c j n l = ap (λ (x : ℕ). isSet x (j % 32)) (wiped-outside c (mapWord j) n (map-in l))
+
+  full-of-v : full geo wiped v ≡ false
+  unfolding full
+  full-of-v = ap not (any-of (d geo) (λ j. isFree (slot geo wiped v j)) (d-positive geo within) (ap isFree (wiped-free 0 (d-positive geo within))))
+
+  full-of-other : (c : ℕ) → c ≢ v → full geo wiped c ≡ full geo image c
+  unfolding full
+  full-of-other c n = ap not (any-ext (d geo) (λ j l. ap isFree (wiped-slot c j n l)))
+
+  bounds-of-v : (leastMapped geo wiped v ≡ ones) × (greatestMapped geo wiped v ≡ ones)
+  unfolding leastMapped greatestMapped
+  bounds-of-v = (wiped-inside leastWord (low-in (omega arith)) (λ e. omega arith), wiped-inside greatestWord (low-in (omega arith)) (λ e. omega arith))
+
+  bounds-of-other : (c : ℕ) → c ≢ v → (leastMapped geo wiped c ≡ leastMapped geo image c) × (greatestMapped geo wiped c ≡ greatestMapped geo image c)
+  unfolding leastMapped greatestMapped
+  bounds-of-other c n = (wiped-outside c leastWord n (low-in (omega arith)), wiped-outside c greatestWord n (low-in (omega arith)))
+
+  pub wiped-blank : blank geo wiped v ≡ true
+  unfolding blank
+  wiped-blank = all-of (d geo) (λ j l. ap isFree (wiped-free j l))
+
+  -- ---- the rules, where no slot of the block was live
+
+  module _ (none-live : (j n : ℕ) → j < d geo → slot geo image v j ≡ Live n → ⊥) where
+    -- a live slot is in another block, and was live before
+    live-was : {c j n : ℕ} → j < d geo → slot geo wiped c j ≡ Live n → (c ≢ v) × (slot geo image c j ≡ Live n)
+    live-was {c} {j} {n} l e =
+        let other : c ≢ v = λ p. free-not-live (ap (λ (x : ℕ). slot geo wiped x j) p ∙ wiped-free j l) e in
+        (other, sym (wiped-slot c j other l) ∙ e)
+
+    in-block : {A : Type 0} (c : ℕ) → (c ≡ v → A) → (c ≢ v → A) → A
+    in-block {A} c here other = go (ℕ-discrete c v)
+      where
+        go : Dec (c ≡ v) → A
+        go (yes p) = here p
+        go (no n) = other n
+
+    clean-v : (j m : ℕ) → j < d geo → m < sectorWords → getD (contents geo wiped v j) m 0 ≡ ones
+    clean-v j m l h =
+        contents-at geo wiped v j m h
+        ∙ wiped-inside (contentWord geo j m) (content-word-inside geo within l h) (λ e. omega (arith, content-word-after geo within j m))
+
+    pub wiped-sound : Sound geo wiped
+    wiped-sound =
+        let s = ready .sound in
+        record {
+          worn = λ c l.
+              in-block c
+              (λ p. rw (ap (eraseCount geo wiped) p ∙ wiped-count) fits)
+              (λ n. rw (wiped-count-other c n) (s .worn c l));
+          map = λ c j l h.
+              let covered : j < 32 * k geo = omega (arith, map-covers geo within) in
+              in-block c
+              (λ p. rw p (map-of-v j covered ∙ sym (ap isFree (wiped-free j h))))
+              (λ n. map-of-other c j n covered ∙ s .map c j l h ∙ sym (ap isFree (wiped-slot c j n h)));
+          rest = λ c j l h m.
+              in-block c (λ p. rw p (map-of-v j m)) (λ n. map-of-other c j n m ∙ s .rest c j l h m);
+          clean = λ c j l h e m q.
+              in-block c
+              (λ p. rw p (clean-v j m h q))
+              (λ n.
+              ap (λ (x : List ℕ). getD x m 0) (wiped-contents c j l n h)
+              ∙ s .clean c j l h (sym (wiped-slot c j n h) ∙ e) m q);
+          proper = λ c j l h.
+              in-block c
+              (λ p. rw p (ap isFaulty (wiped-free j h)))
+              (λ n. ap isFaulty (wiped-slot c j n h) ∙ s .proper c j l h);
+          once = λ n c c' j j' l l' h h' e e'. s .once n c c' j j' l l' h h' (live-was h e .1) (live-was h' e' .1);
+          unbounded = λ c l f.
+              in-block c
+              (λ p. rw p bounds-of-v)
+              (λ n.
+              let same = bounds-of-other c n in
+              let were = s .unbounded c l (sym (full-of-other c n) ∙ f) in
+              (same .0 ∙ were .0, same .1 ∙ were .1));
+          bounded = λ c j m l h f e.
+              let was = live-was h e in
+              let same = bounds-of-other c (was .0) in
+              let were = s .bounded c j m l h (sym (full-of-other c (was .0)) ∙ f) (was .1) in
+              (rw (same .0) (were .0), rw (same .1) (were .1));
+        }
+
+    pub wiped-map : (n : ℕ) → mapOf geo wiped n ≡ mapOf geo image n
+    wiped-map n =
+        map-same geo image wiped n (ready .sound) wiped-sound
+        (λ c j l h e.
+        let other : c ≢ v = λ p. none-live j n h (ap (λ (x : ℕ). slot geo image x j) (sym p) ∙ e) in
+        (wiped-slot c j other h ∙ e, wiped-contents c j l other h))
+        (λ c j l h e. live-was h e .1)
+
+    pub wiped-ready : Ready geo wiped
+    wiped-ready = record { shaped = wiped-shaped; words = wiped-words; sound = wiped-sound }

@@ -1,0 +1,11 @@
+pub mod Stores
+pub mod Filling
+pub mod Placed
+pub mod Kept
+pub mod Counts
+pub mod Erased
+pub mod Moving
+pub mod Reclaimed
+pub mod Chosen
+pub mod Written
+pub mod Released

@@ -1,0 +1,272 @@
+-- The copying of a reclaim, slot by slot: what is kept, what is where, and what it costs. Assumes nothing.
+use mathlib.Core.Path.{_≡_, refl, sym, ap, ap₂, _∙_}
+use mathlib.Core.Logic.{_≢_, _⊎_, inl, inr, ⊎-elim}
+use mathlib.Core.Bool.{Bool, true, false, not, _&&_}
+use mathlib.Core.List.{List, [], _∷_, _++_}
+use mathlib.Core.Option.{Option, some}
+use Prim.Native.Nat.{ℕ, zero, suc, _+_, _*_, _^_, _<_, _≤_}
+use native.Mathlib.Nat.{lt-suc-self, le-step}
+use native.Mathlib.Decide.{decLt, ℕ-discrete}
+use native.Mathlib.Omega.{arith}
+use lib.ListN.{length}
+use Rattle.ranges.specs.Range.{one-if, sumBelow, countBelow}
+use Rattle.ranges.proofs.Tests.{below-suc, any-of}
+use Rattle.ranges.proofs.Sums.{sum-prefix}
+use Rattle.geometry.specs.declared.Geometry.{Geometry}
+use Rattle.geometry.specs.Geometry.{d}
+use Rattle.image.specs.declared.Slot.{Slot}
+use Rattle.image.specs.declared.Slot.the-variants.{Free, Live, Dead, Faulty}
+use Rattle.image.specs.declared.Found.{Found}
+use Rattle.image.specs.declared.Found.the-variants.{At, Nothing}
+use Rattle.image.specs.Words.{Image, Shaped, Words32, eraseCount, contents}
+use Rattle.image.specs.Slots.{slot, isFree, isLive, find, mapOf}
+use Rattle.image.specs.Blocks.{full}
+use Rattle.image.proofs.Facts.{Sound, live-word}
+use Rattle.image.proofs.Finding.{live-found, map-at}
+use Rattle.image.proofs.Places.{contents-long, contents-words}
+use Rattle.flash.specs.Steps.{Step, run, wordsIn, erasuresIn, leavesAsked}
+use Rattle.flash.specs.Placing.{placing}
+use Rattle.flash.specs.Writing.{Copied, copiedSlot, copying}
+use Rattle.flash.proofs.Stores.{run-append, run-none, asked-append, words-append, erasures-append}
+use Rattle.flash.proofs.Counts.{isAt, placing-erasures}
+use Rattle.flash.proofs.Filling.{Ready, Target}
+use Rattle.flash.proofs.Placed.{Placed, Bounds, placing-exact, placing-placed, placing-bounds, placing-cost, placing-shaped, placing-words32}
+use Rattle.flash.proofs.Kept.{free-not-live, dead-not-live, faulty-not-live, same-number, free-as-before, live-before, only-here, placed-sound, placed-here, placed-other}
+
+-- a place in an image differs from another that differs in its block or its slot
+other-place : {b c i j : ℕ} → (b ≡ c → i ≡ j → ⊥) → At b i ≡ At c j → ⊥
+other-place {b} {c} {i} {j} n e =
+    let p : b ≡ c = cc in
+    let q : i ≡ j = cc in
+    n p q
+
+module _
+    (geo : Geometry) (image : Image) (v t : ℕ)
+    (start : Ready geo image)
+    (victim-in : v < geo .blocks) (target-in : t < geo .blocks) (apart : v ≢ t)
+    (blank-slots : (j : ℕ) → j < d geo → slot geo image t j ≡ Free)
+    (spare : countBelow (d geo) (λ i. isLive (slot geo image v i)) < d geo)
+  where
+    abbrev lives : ℕ → Bool
+    lives i = isLive (slot geo image v i)
+
+    abbrev so-far : Copied → Image
+    so-far st = run geo image (st .steps)
+
+    -- how the image stands after the first m slots of v
+    pub record Moved (m : ℕ) (st : Copied) : Type 0 where
+      pub asked : leavesAsked geo image (st .steps) ≡ true
+      pub ready : Ready geo (so-far st)
+      pub words : wordsIn (st .steps) ≡ 133 * st .taken
+      pub erasures : erasuresIn (st .steps) ≡ 0
+      pub taken : st .taken ≡ countBelow m lives
+      pub counts : (c : ℕ) → c < geo .blocks → eraseCount geo (so-far st) c ≡ eraseCount geo image c
+      pub later : (j : ℕ) → m ≤ j → j < d geo → slot geo (so-far st) v j ≡ slot geo image v j
+      pub passed : (j n : ℕ) → j < m → j < d geo → slot geo (so-far st) v j ≡ Live n → ⊥
+      pub left-free : (j : ℕ) → st .taken ≤ j → j < d geo → slot geo (so-far st) t j ≡ Free
+      pub used : (j : ℕ) → j < st .taken → isFree (slot geo (so-far st) t j) ≡ false
+      pub others : (c j : ℕ) → c < geo .blocks → c ≢ v → c ≢ t → j < d geo → slot geo (so-far st) c j ≡ slot geo image c j
+      pub map : (n : ℕ) → mapOf geo (so-far st) n ≡ mapOf geo image n
+
+    nothing-yet : Moved 0 (record { steps = []; taken = 0 })
+    unfolding run leavesAsked wordsIn erasuresIn sumBelow
+    nothing-yet =
+        record {
+          asked = refl;
+          ready = start;
+          words = refl;
+          erasures = refl;
+          taken = refl;
+          counts = λ c l. refl;
+          later = λ j l h. refl;
+          passed = λ j n l h e. omega arith;
+          left-free = λ j l h. blank-slots j h;
+          used = λ j l. absurd (omega arith);
+          others = λ c j l n n' h. refl;
+          map = λ n. refl;
+        }
+
+    -- a slot that is not live is passed by
+    passed-by : (m : ℕ) (st : Copied) → m < d geo → Moved m st → ((n : ℕ) → slot geo (so-far st) v m ≡ Live n → ⊥) → Moved (suc m) st
+    unfolding sumBelow
+    passed-by m st l h none =
+        record {
+          asked = h .asked;
+          ready = h .ready;
+          words = h .words;
+          erasures = h .erasures;
+          taken = omega (arith, h .taken, not-live (slot geo image v m) (λ n e. none n (h .later m (omega arith) l ∙ e)));
+          counts = h .counts;
+          later = λ j q r. h .later j (omega arith) r;
+          passed = λ j n q r e.
+              ⊎-elim (λ s. none n (ap (slot geo (so-far st) v) (sym s) ∙ e)) (λ s. h .passed j n s r e) (below-suc q);
+          left-free = h .left-free;
+          used = h .used;
+          others = h .others;
+          map = h .map;
+        }
+      where
+        not-live : (s : Slot) → ((n : ℕ) → s ≡ Live n → ⊥) → one-if (isLive s) ≡ 0
+        not-live Free f = refl
+        not-live (Live n) f = absurd (f n refl)
+        not-live Dead f = refl
+        not-live Faulty f = refl
+
+    -- a live slot is copied
+    module _ (m : ℕ) (st : Copied) (n : ℕ) (l : m < d geo) (h : Moved m st) (live : slot geo (so-far st) v m ≡ Live n) where
+      abbrev now : Image
+      now = so-far st
+
+      abbrev ws : List ℕ
+      ws = contents geo now v m
+
+      abbrev more : List Step
+      more = placing geo now n ws t (st .taken)
+
+      abbrev after : Image
+      after = run geo now more
+
+      was-live : one-if (lives m) ≡ 1
+      was-live = ap (λ (s : Slot). one-if (isLive s)) (sym (h .later m (omega arith) l) ∙ live)
+
+      -- the blank block keeps a free slot
+      room : st .taken + 1 < d geo
+      unfolding sumBelow
+      room = omega (arith, h .taken, was-live, sum-prefix {m = suc m} (λ i. one-if (lives i)) l)
+
+      number : n < geo .logical
+      number = live-word geo now v m (h .ready .words) live .1
+
+      target : Target geo now n ws t (st .taken)
+      target =
+          record {
+            number = number;
+            long = contents-long geo now (h .ready .shaped) victim-in l;
+            words = contents-words geo now v m (h .ready .shaped) victim-in l (h .ready .words);
+            block = target-in;
+            slot-of = omega (arith, room);
+            free = h .left-free (st .taken) (omega arith) (omega (arith, room));
+          }
+
+      p : Placed geo now after n ws t (st .taken)
+      p = placing-placed geo now n ws t (st .taken) (h .ready) target
+
+      here : find geo now n ≡ At v m
+      here = live-found geo now (h .ready .sound) n v m (record { block = victim-in; slot-of = l; live = live })
+
+      not-here : {c j : ℕ} → (c ≡ v → j ≡ m → ⊥) → find geo now n ≡ At c j → ⊥
+      not-here x e = other-place (λ y z. x (sym y) (sym z)) (sym here ∙ e)
+
+      bounds : Bounds geo now after t
+      bounds = placing-bounds geo now n ws t (st .taken) (h .ready) target
+
+      words-after : Words32 after
+      words-after = placing-words32 geo now n ws t (st .taken) (h .ready) target
+
+      sound-after : Sound geo after
+      sound-after =
+          placed-sound geo now after n ws t (st .taken) (h .ready) target p
+          bounds words-after
+
+      ready-after : Ready geo after
+      ready-after =
+          record { shaped = placing-shaped geo now n ws t (st .taken) (h .ready) target; words = words-after; sound = sound-after }
+
+      free-after : (j : ℕ) → st .taken + 1 ≤ j → j < d geo → slot geo after t j ≡ Free
+      free-after j q r =
+          p .other t j target-in r (λ x y. omega arith) (not-here (λ x y. apart (sym x)))
+          ∙ h .left-free j (omega arith) r
+
+      not-full : full geo after t ≡ false
+      unfolding full
+      not-full =
+          ap not (any-of (d geo) (λ j. isFree (slot geo after t j)) room (ap isFree (free-after (st .taken + 1) (omega arith) room)))
+
+      cost : wordsIn more ≡ 133
+      cost =
+          placing-cost geo now n ws t (st .taken) (h .ready) target
+          ∙ ap₂ (λ (f : Found) (x : Bool). 131 + 2 * one-if (isAt f) + 2 * one-if x) here not-full
+
+      map-after : (x : ℕ) → mapOf geo after x ≡ mapOf geo now x
+      map-after x = go (ℕ-discrete x n)
+        where
+          go : Dec (x ≡ n) → mapOf geo after x ≡ mapOf geo now x
+          go (yes e) =
+              rw e
+              (placed-here geo now after n ws t (st .taken) (h .ready) target p
+              bounds words-after
+              ∙ sym (map-at geo now n v m here))
+          go (no e) =
+              placed-other geo now after n ws t (st .taken) (h .ready) target p
+              bounds words-after x e
+
+      passed-after : (j x : ℕ) → j < suc m → j < d geo → slot geo after v j ≡ Live x → ⊥
+      passed-after j x q r e =
+          ⊎-elim
+          (λ s. dead-not-live (ap (slot geo after v) s ∙ p .old-dead v m here) e)
+          (λ s. go s (ℕ-discrete x n))
+          (below-suc q)
+        where
+          go : j < m → Dec (x ≡ n) → ⊥
+          go s (yes y) =
+              apart
+              (only-here geo now after n ws t (st .taken) (h .ready) target p
+              v j victim-in r (e ∙ ap Live y) .0)
+          go s (no y) =
+              h .passed j x s r
+              (live-before geo now after n ws t (st .taken) (h .ready) target p
+              x v j victim-in r y e)
+
+      used-after : (j : ℕ) → j < suc (st .taken) → isFree (slot geo after t j) ≡ false
+      used-after j q =
+          ⊎-elim
+          (λ s. ap (λ (x : ℕ). isFree (slot geo after t x)) s ∙ ap isFree (p .here))
+          (λ s.
+          free-as-before geo now after n ws t (st .taken) (h .ready) target p
+          t j target-in (omega (arith, room)) (λ x y. omega arith)
+          ∙ h .used j s)
+          (below-suc q)
+
+      abbrev next : Copied
+      next = record { steps = st .steps ++ more; taken = suc (st .taken) }
+
+      same-image : so-far next ≡ after
+      same-image = run-append geo image (st .steps) more
+
+      copied : Moved (suc m) next
+      unfolding sumBelow
+      copied =
+          record {
+            asked =
+                asked-append geo image (st .steps) more
+                ∙ ap₂ _&&_ (h .asked) (placing-exact geo now n ws t (st .taken) (h .ready) target .asked);
+            ready = rw same-image ready-after;
+            words = omega (arith, words-append (st .steps) more, h .words, cost);
+            erasures = omega (arith, erasures-append (st .steps) more, h .erasures, placing-erasures geo now n ws t (st .taken));
+            taken = omega (arith, h .taken, was-live);
+            counts = λ c q. rw same-image (p .counts c q ∙ h .counts c q);
+            later = λ j q r.
+                rw same-image (p .other v j victim-in r (λ x y. apart x) (not-here (λ x y. omega arith)) ∙ h .later j (omega arith) r);
+            passed = λ j x q r e. passed-after j x q r (rw same-image at e);
+            left-free = λ j q r. rw same-image (free-after j (omega arith) r);
+            used = λ j q. rw same-image (used-after j q);
+            others = λ c j q x y r.
+                rw same-image (p .other c j q r (λ z w. y z) (not-here (λ z w. x z)) ∙ h .others c j q x y r);
+            map = λ x. rw same-image (map-after x ∙ h .map x);
+          }
+
+    -- one slot more
+    moved-on : (m : ℕ) (st : Copied) → m < d geo → Moved m st → Moved (suc m) (copiedSlot geo (so-far st) v t m st (slot geo (so-far st) v m))
+    moved-on m st l h = go (slot geo (so-far st) v m) refl
+      where
+        go : (s : Slot) → slot geo (so-far st) v m ≡ s → Moved (suc m) (copiedSlot geo (so-far st) v t m st s)
+        go Free e = passed-by m st l h (λ n q. free-not-live e q)
+        go (Live n) e = copied m st n l h e
+        go Dead e = passed-by m st l h (λ n q. dead-not-live e q)
+        go Faulty e = passed-by m st l h (λ n q. faulty-not-live e q)
+
+    -- all the slots
+    pub moved : (m : ℕ) → m ≤ d geo → Moved m (copying geo image v t m)
+    unfolding copying
+    moved zero l = nothing-yet
+    moved (suc m) l = moved-on m (copying geo image v t m) l (moved m (omega arith))

@@ -1,0 +1,98 @@
+-- A whole reclaim: the live slots of v copied to the blank block t, then v erased. Assumes nothing.
+use mathlib.Core.Path.{_≡_, refl, sym, ap, ap₂, _∙_}
+use mathlib.Core.Logic.{_≢_, _⊎_, inl, inr, ⊎-elim}
+use mathlib.Core.Bool.{Bool, true, false, not, _&&_}
+use mathlib.Core.List.{List, [], _∷_, _++_}
+use Prim.Native.Nat.{ℕ, suc, _+_, _*_, _<_, _≤_}
+use native.Mathlib.Omega.{arith}
+use Rattle.ranges.specs.Range.{one-if, sumBelow, countBelow}
+use Rattle.geometry.specs.declared.Geometry.{Geometry}
+use Rattle.geometry.specs.Geometry.{d}
+use Rattle.geometry.specs.Places.{place, eraseWord}
+use Rattle.image.specs.declared.Slot.{Slot}
+use Rattle.image.specs.declared.Slot.the-variants.{Free, Live, Dead, Faulty}
+use Rattle.image.specs.Words.{Image, eraseCount}
+use Rattle.image.specs.Slots.{slot, isFree, isLive, mapOf}
+use Rattle.image.specs.Blocks.{blank, liveSlots}
+use Rattle.image.specs.WellFormed.{ceiling}
+use Rattle.flash.specs.Steps.{Step, Program, Erase, run, wordsIn, erasuresIn, leavesAsked}
+use Rattle.flash.specs.Writing.{Copied, copying, erasing}
+use Rattle.flash.proofs.Stores.{run-append, asked-append, words-append, erasures-append}
+use Rattle.flash.proofs.Filling.{Ready}
+use Rattle.flash.proofs.Moving.{Moved, moved}
+use Rattle.flash.proofs.Erased.{erasing-asked, wiped-count, wiped-count-other, wiped-slot, wiped-free, wiped-blank, wiped-map, wiped-ready}
+
+-- what the reclaim of v into t leaves, by these steps
+pub record Reclaimed (geo : Geometry) (image : Image) (v t : ℕ) (steps : List Step) : Type 0 where
+  pub asked : leavesAsked geo image steps ≡ true
+  pub ready : Ready geo (run geo image steps)
+  pub words : wordsIn steps ≡ 133 * liveSlots geo image v + 1
+  pub erasures : erasuresIn steps ≡ 1
+  pub count : eraseCount geo (run geo image steps) v ≡ eraseCount geo image v + 1
+  pub counts : (c : ℕ) → c < geo .blocks → c ≢ v → eraseCount geo (run geo image steps) c ≡ eraseCount geo image c
+  pub emptied : (j : ℕ) → j < d geo → slot geo (run geo image steps) v j ≡ Free
+  pub left-free : (j : ℕ) → liveSlots geo image v ≤ j → j < d geo → slot geo (run geo image steps) t j ≡ Free
+  pub used : (j : ℕ) → j < liveSlots geo image v → isFree (slot geo (run geo image steps) t j) ≡ false
+  pub others : (c j : ℕ) → c < geo .blocks → c ≢ v → c ≢ t → j < d geo → slot geo (run geo image steps) c j ≡ slot geo image c j
+  pub map : (n : ℕ) → mapOf geo (run geo image steps) n ≡ mapOf geo image n
+
+module _
+    (geo : Geometry) (image : Image) (v t : ℕ)
+    (start : Ready geo image)
+    (victim-in : v < geo .blocks) (target-in : t < geo .blocks) (apart : v ≢ t)
+    (blank-slots : (j : ℕ) → j < d geo → slot geo image t j ≡ Free)
+    (spare : liveSlots geo image v < d geo)
+    (wearable : eraseCount geo image v < ceiling)
+  where
+    abbrev copied : Copied
+    copied = copying geo image v t (d geo)
+
+    abbrev copy : Image
+    copy = run geo image (copied .steps)
+
+    abbrev all : List Step
+    all = copied .steps ++ erasing geo image v
+
+    m : Moved geo image v t start victim-in target-in apart blank-slots spare (d geo) copied
+    m = moved geo image v t start victim-in target-in apart blank-slots spare (d geo) (omega arith)
+
+    taken : copied .taken ≡ liveSlots geo image v
+    taken = m .taken
+
+    abbrev count : ℕ
+    count = eraseCount geo image v + 1
+
+    fits : count ≤ ceiling
+    fits = omega (arith, wearable)
+
+    after : run geo image all ≡ run geo copy (erasing geo image v)
+    after = run-append geo image (copied .steps) (erasing geo image v)
+
+    none-live : (j n : ℕ) → j < d geo → slot geo copy v j ≡ Live n → ⊥
+    none-live j n l e = m .passed j n l l e
+
+    two-steps : (wordsIn (erasing geo image v) ≡ 1) × (erasuresIn (erasing geo image v) ≡ 1)
+    unfolding wordsIn erasuresIn
+    two-steps = (refl, refl)
+
+    pub reclaimed : Reclaimed geo image v t all
+    reclaimed =
+        record {
+          asked =
+              asked-append geo image (copied .steps) (erasing geo image v)
+              ∙ ap₂ _&&_ (m .asked) (erasing-asked geo copy (m .ready) v count victim-in fits);
+          ready = rw after (wiped-ready geo copy (m .ready) v count victim-in fits none-live);
+          words = omega (arith, words-append (copied .steps) (erasing geo image v), two-steps .0, m .words, taken);
+          erasures = omega (arith, erasures-append (copied .steps) (erasing geo image v), two-steps .1, m .erasures);
+          count = rw after (wiped-count geo copy (m .ready) v count victim-in fits);
+          counts = λ c l n. rw after (wiped-count-other geo copy (m .ready) v count victim-in fits c n ∙ m .counts c l);
+          emptied = λ j l. rw after (wiped-free geo copy (m .ready) v count victim-in fits j l);
+          left-free = λ j l h.
+              rw after
+              (wiped-slot geo copy (m .ready) v count victim-in fits t j (λ e. apart (sym e)) h ∙ m .left-free j (omega (arith, taken)) h);
+          used = λ j l.
+              rw after
+              (ap isFree (wiped-slot geo copy (m .ready) v count victim-in fits t j (λ e. apart (sym e)) (omega (arith, spare))) ∙ m .used j (omega (arith, taken)));
+          others = λ c j l n n' h. rw after (wiped-slot geo copy (m .ready) v count victim-in fits c j n h ∙ m .others c j l n n' h);
+          map = λ n. rw after (wiped-map geo copy (m .ready) v count victim-in fits none-live n ∙ m .map n);
+        }

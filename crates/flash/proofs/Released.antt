@@ -1,0 +1,218 @@
+-- A release: its one word, and what it leaves. Assumes nothing.
+use mathlib.Core.Path.{_≡_, refl, sym, ap, ap₂, _∙_}
+use mathlib.Core.Logic.{_≢_, _⊎_, inl, inr, ⊎-elim}
+use mathlib.Core.Bool.{Bool, true, false, not}
+use mathlib.Core.List.{List}
+use mathlib.Core.Option.{Option, none}
+use Prim.Native.Nat.{ℕ, _+_, _*_, _%_, _^_, _<_, _≤_}
+use native.Mathlib.Decide.{ℕ-discrete}
+use native.Mathlib.Omega.{arith}
+use lib.ListN.{length, getD}
+use Rattle.ranges.specs.Range.{one-if, sumBelow}
+use Rattle.ranges.proofs.Tests.{any-ext, all-ext}
+use Rattle.ranges.proofs.Sums.{sum-ext}
+use Rattle.bits.specs.Word.{isSet, cleared, programmed}
+use Rattle.bits.proofs.Programming.{clearing-leaves}
+use Rattle.geometry.specs.declared.Geometry.{Geometry}
+use Rattle.geometry.specs.Geometry.{Limits, d, k, blockLength, sectorWords}
+use Rattle.geometry.specs.Places.{place, eraseWord, leastWord, greatestWord, mapWord, entryWord, contentWord}
+use Rattle.geometry.proofs.Laws.{logical-small, management-inside, management-fits, map-word-inside, map-covers, entry-word-inside, content-word-inside, content-word-after}
+use Rattle.image.specs.declared.Slot.{Slot}
+use Rattle.image.specs.declared.Slot.the-variants.{Free, Live, Dead, Faulty}
+use Rattle.image.specs.declared.Found.the-variants.{At}
+use Rattle.image.specs.Words.{Image, Shaped, Words32, word, eraseCount, leastMapped, greatestMapped, freeMap, mapBit, entry, contents}
+use Rattle.image.specs.Slots.{validBit, slotOf, slot, isFree, isFaulty, find, mapOf}
+use Rattle.image.specs.Blocks.{blank, full, freeSlots}
+use Rattle.image.specs.WellFormed.{R6}
+use Rattle.image.proofs.Entries.{dead-slot, released-entry}
+use Rattle.image.proofs.Reading.{entry-inside}
+use Rattle.image.proofs.Facts.{Sound, live-word}
+use Rattle.image.proofs.Finding.{LiveAt, found-live, none-found, map-nothing, map-same}
+use Rattle.image.proofs.Places.{apart, contents-at, contents-are, contents-long}
+use Rattle.flash.specs.Steps.{Step, Program, run, wordsIn, erasuresIn, leavesAsked}
+use Rattle.flash.specs.Placing.{entryAt, programsEntry, releasing}
+use Rattle.flash.proofs.Stores.{Exact, last-here, last-other, exact-one, run-words}
+use Rattle.flash.proofs.Counts.{releasing-words, releasing-erasures}
+use Rattle.flash.proofs.Filling.{Ready}
+use Rattle.flash.proofs.Kept.{dead-not-live, dead-not-free, same-number}
+
+-- what the steps of a release of n leave
+pub record Released (geo : Geometry) (image : Image) (n : ℕ) (steps : List Step) : Type 0 where
+  pub asked : leavesAsked geo image steps ≡ true
+  pub words : wordsIn steps ≡ 1
+  pub erasures : erasuresIn steps ≡ 0
+  pub ready : Ready geo (run geo image steps)
+  pub still-blank : R6 geo (run geo image steps) ≡ R6 geo image
+  pub here : mapOf geo (run geo image steps) n ≡ none
+  pub other : (m : ℕ) → m ≢ n → mapOf geo (run geo image steps) m ≡ mapOf geo image m
+  pub free : sumBelow (geo .blocks) (freeSlots geo (run geo image steps)) ≡ sumBelow (geo .blocks) (freeSlots geo image)
+  pub worn : sumBelow (geo .blocks) (eraseCount geo (run geo image steps)) ≡ sumBelow (geo .blocks) (eraseCount geo image)
+
+module _ (geo : Geometry) (image : Image) (n b i : ℕ) (start : Ready geo image) (found : find geo image n ≡ At b i) where
+  within : Limits geo
+  within = start .shaped .limits
+
+  at : LiveAt geo image n b i
+  at = found-live geo image n b i found
+
+  abbrev here-place : ℕ
+  here-place = place geo b (entryWord geo i)
+
+  abbrev steps : List Step
+  steps = programsEntry geo (At b i) (cleared (entry geo image b i) validBit)
+
+  abbrev after : Image
+  after = run geo image steps
+
+  exact : Exact geo image steps
+  unfolding entry
+  exact =
+      exact-one geo image here-place (cleared (entry geo image b i) validBit)
+      (entry-inside geo image (start .shaped) (at .block) (at .slot-of))
+      (clearing-leaves (entry geo image b i) validBit (start .words .small here-place))
+
+  -- ---- each reading
+
+  entry-in : {j : ℕ} → j < d geo → entryWord geo j < blockLength geo
+  entry-in l = management-inside geo within (entry-word-inside geo within l)
+
+  elsewhere : (c j : ℕ) → j < blockLength geo → (c ≡ b → j ≡ entryWord geo i → ⊥) → word after (place geo c j) ≡ word image (place geo c j)
+  elsewhere c j l n' =
+      exact .words (place geo c j)
+      ∙ last-other (cleared (entry geo image b i) validBit) (word image (place geo c j)) (apart geo l (entry-in (at .slot-of)) n')
+
+  low-word : (c j : ℕ) → j < 3 + k geo → word after (place geo c j) ≡ word image (place geo c j)
+  low-word c j l = elsewhere c j (management-inside geo within (omega (arith, management-fits geo within))) (λ p e. omega arith)
+
+  shaped-after : Shaped geo after
+  shaped-after = record { limits = within; long = exact .long ∙ start .shaped .long }
+
+  dead : slot geo after b i ≡ Dead
+  unfolding slot entry
+  dead =
+      let was = live-word geo image b i (start .words) (at .live) in
+      let small : n < 2 ^ 29 = omega (arith, logical-small geo within, was .1) in
+      ap (slotOf (geo .logical))
+      (exact .words here-place
+      ∙ last-here here-place (cleared (entry geo image b i) validBit) (word image here-place)
+      ∙ ap (λ (w : ℕ). cleared w validBit) (was .0)
+      ∙ released-entry n small)
+      ∙ dead-slot (geo .logical) (0x40000000 + n) (omega arith) (λ q. omega arith) (λ q. omega arith)
+
+  slot-other : (c j : ℕ) → j < d geo → (c ≡ b → j ≡ i → ⊥) → slot geo after c j ≡ slot geo image c j
+  unfolding slot entry
+  slot-other c j l n' = ap (slotOf (geo .logical)) (elsewhere c (entryWord geo j) (entry-in l) (λ p e. n' p (omega arith)))
+
+  counts : (c : ℕ) → eraseCount geo after c ≡ eraseCount geo image c
+  unfolding eraseCount
+  counts c = low-word c eraseWord (omega arith)
+
+  bounds : (c : ℕ) → (leastMapped geo after c ≡ leastMapped geo image c) × (greatestMapped geo after c ≡ greatestMapped geo image c)
+  unfolding leastMapped greatestMapped
+  bounds c = (low-word c leastWord (omega arith), low-word c greatestWord (omega arith))
+
+  map-same-bit : (c j : ℕ) → j < 32 * k geo → mapBit geo after c j ≡ mapBit geo image c j
+  unfolding freeMap
+  map-same-bit c j l = ap (λ (w : ℕ). isSet w (j % 32)) (low-word c (mapWord j) (map-word-inside geo within {i = j} l))
+
+  contents-same : (c j : ℕ) → c < geo .blocks → j < d geo → contents geo after c j ≡ contents geo image c j
+  contents-same c j l h =
+      contents-are geo after c j (contents geo image c j) shaped-after l h (contents-long geo image (start .shaped) l h)
+      (λ m q.
+      elsewhere c (contentWord geo j m) (content-word-inside geo within h q)
+      (λ p e. omega (arith, entry-word-inside geo within (at .slot-of), content-word-after geo within j m))
+      ∙ sym (contents-at geo image c j m q))
+
+  -- ---- any slot is the released one, or as it was
+
+  which : {A : Type 0} (c j : ℕ) → (c ≡ b → j ≡ i → A) → ((c ≡ b → j ≡ i → ⊥) → A) → A
+  which {A} c j here other = go (ℕ-discrete c b) (ℕ-discrete j i)
+    where
+      go : Dec (c ≡ b) → Dec (j ≡ i) → A
+      go (yes x) (yes y) = here x y
+      go (yes x) (no y) = other (λ p q. y q)
+      go (no x) y = other (λ p q. x p)
+
+  released-at : {c j : ℕ} → c ≡ b → j ≡ i → slot geo after c j ≡ Dead
+  released-at x y = ap₂ (slot geo after) x y ∙ dead
+
+  was-at : {c j : ℕ} → c ≡ b → j ≡ i → slot geo image c j ≡ Live n
+  was-at x y = ap₂ (slot geo image) x y ∙ at .live
+
+  free-same : (c j : ℕ) → j < d geo → isFree (slot geo after c j) ≡ isFree (slot geo image c j)
+  free-same c j l =
+      which c j (λ x y. ap isFree (released-at x y) ∙ sym (ap isFree (was-at x y))) (λ o. ap isFree (slot-other c j l o))
+
+  live-was : (m c j : ℕ) → j < d geo → slot geo after c j ≡ Live m → slot geo image c j ≡ Live m
+  live-was m c j l e =
+      which c j (λ x y. absurd (dead-not-live (released-at x y) e)) (λ o. sym (slot-other c j l o) ∙ e)
+
+  full-same : (c : ℕ) → full geo after c ≡ full geo image c
+  unfolding full
+  full-same c = ap not (any-ext (d geo) (λ j l. free-same c j l))
+
+  blank-same : (c : ℕ) → blank geo after c ≡ blank geo image c
+  unfolding blank
+  blank-same c = all-ext (d geo) (λ j l. free-same c j l)
+
+  sound-after : Sound geo after
+  sound-after =
+      let s = start .sound in
+      record {
+        worn = λ c l. rw (counts c) (s .worn c l);
+        map = λ c j l h.
+            map-same-bit c j (omega (arith, map-covers geo within)) ∙ s .map c j l h ∙ sym (free-same c j h);
+        rest = λ c j l h m. map-same-bit c j m ∙ s .rest c j l h m;
+        clean = λ c j l h e m q.
+            ap (λ (x : List ℕ). getD x m 0) (contents-same c j l h)
+            ∙ s .clean c j l h (which c j (λ x y. absurd (dead-not-free (released-at x y) e)) (λ o. sym (slot-other c j h o) ∙ e)) m q;
+        proper = λ c j l h.
+            which c j (λ x y. ap isFaulty (released-at x y)) (λ o. ap isFaulty (slot-other c j h o) ∙ s .proper c j l h);
+        once = λ m c c' j j' l l' h h' e e'. s .once m c c' j j' l l' h h' (live-was m c j h e) (live-was m c' j' h' e');
+        unbounded = λ c l f.
+            let were = s .unbounded c l (sym (full-same c) ∙ f) in
+            (bounds c .0 ∙ were .0, bounds c .1 ∙ were .1);
+        bounded = λ c j m l h f e.
+            let were = s .bounded c j m l h (sym (full-same c) ∙ f) (live-was m c j h e) in
+            (rw (bounds c .0) (were .0), rw (bounds c .1) (were .1));
+      }
+
+  gone : mapOf geo after n ≡ none
+  gone =
+      map-nothing geo after n
+      (none-found geo after n
+      (λ c j l h e.
+      let same = start .sound .once n c b j i l (at .block) h (at .slot-of) (live-was n c j h e) (at .live) in
+      dead-not-live (released-at (same .0) (same .1)) e))
+
+  kept : (m : ℕ) → m ≢ n → mapOf geo after m ≡ mapOf geo image m
+  kept m x =
+      map-same geo image after m (start .sound) sound-after
+      (λ c j l h e.
+      (which c j (λ p q. absurd (x (same-number e (was-at p q)))) (λ o. slot-other c j h o ∙ e), contents-same c j l h))
+      (λ c j l h e. live-was m c j h e)
+
+  steps-are : releasing geo image n ≡ steps
+  unfolding releasing
+  steps-are = rw found
+
+  pub releasing-released : Released geo image n (releasing geo image n)
+  unfolding R6
+  releasing-released =
+      rw steps-are
+      (record {
+        asked = exact .asked;
+        words = sym (ap wordsIn steps-are) ∙ releasing-words geo image n ∙ rw found;
+        erasures = sym (ap erasuresIn steps-are) ∙ releasing-erasures geo image n;
+        ready =
+            record {
+              shaped = shaped-after;
+              words = run-words geo image steps (sym (ap erasuresIn steps-are) ∙ releasing-erasures geo image n) (start .words);
+              sound = sound-after;
+            };
+        still-blank = any-ext (geo .blocks) (λ c l. blank-same c);
+        here = gone;
+        other = kept;
+        free = sum-ext (geo .blocks) (λ c l. sum-ext (d geo) (λ j h. ap one-if (free-same c j h)));
+        worn = sum-ext (geo .blocks) (λ c l. counts c);
+      })

@@ -1,0 +1,340 @@
+-- A whole write, by rules 1 and 2 and by rule 3: what it leaves, what it costs and what it pays. Assumes nothing.
+use mathlib.Core.Path.{_≡_, refl, sym, ap, ap₂, _∙_}
+use mathlib.Core.Logic.{_≢_, _⊎_, inl, inr, ⊎-elim}
+use mathlib.Core.Bool.{Bool, true, false, not, _&&_, true≢false}
+use mathlib.Core.List.{List, [], _∷_, _++_}
+use mathlib.Core.Option.{Option, some}
+use Prim.Native.Nat.{ℕ, zero, suc, _+_, _*_, _<_, _≤_}
+use native.Mathlib.Decide.{ℕ-discrete}
+use native.Mathlib.Omega.{arith}
+use lib.ListN.{length}
+use Rattle.ranges.specs.Range.{one-if, sumBelow, countBelow, anyBelow}
+use Rattle.ranges.proofs.Tests.{all-of, not-all, any-of, any-at, none-at}
+use Rattle.ranges.proofs.Sums.{sum-ext, sum-update, sum-update-two, one-if-le, count-one, count-positive, count-from, count-every}
+use Rattle.ranges.proofs.Searches.{best-passes, best-some}
+use Rattle.geometry.specs.declared.Geometry.{Geometry}
+use Rattle.geometry.specs.Geometry.{Limits, d, g, sectorWords}
+use Rattle.geometry.proofs.Laws.{d-positive, g-positive, g-at-most-d}
+use Rattle.image.specs.declared.Slot.{Slot}
+use Rattle.image.specs.declared.Slot.the-variants.{Free, Live, Dead, Faulty}
+use Rattle.image.specs.Words.{Image, Words32, eraseCount}
+use Rattle.image.specs.Slots.{slot, isFree, find, mapOf}
+use Rattle.image.specs.Blocks.{blank, full, isOpen, freeSlots, liveSlots, deadSlots, lessWorn, leastWornBlank, preferred, victim}
+use Rattle.image.specs.WellFormed.{ceiling, R6}
+use Rattle.image.proofs.Facts.{unless}
+use Rattle.image.proofs.Capacity.{block-parts, blank-free, full-free, shut-full, blank-not-full, free-is-a-block, victim-dead}
+use Rattle.flash.specs.Steps.{Step, run, wordsIn, erasuresIn, leavesAsked}
+use Rattle.flash.specs.Placing.{placing}
+use Rattle.flash.specs.Writing.{copying, erasing, filling, mustReclaim, reclaiming, reclaimingFirst, writing}
+use Rattle.flash.proofs.Stores.{run-append, asked-append, words-append, erasures-append}
+use Rattle.flash.proofs.Counts.{isAt, placing-erasures}
+use Rattle.flash.proofs.Filling.{Ready, Target}
+use Rattle.flash.proofs.Placed.{Placed, placing-exact, placing-placed, placing-bounds, placing-cost, placing-shaped, placing-words32}
+use Rattle.flash.proofs.Kept.{free-as-before, placed-sound, placed-here, placed-other, placed-free}
+use Rattle.flash.proofs.Reclaimed.{Reclaimed, reclaimed}
+use Rattle.flash.proofs.Chosen.{Chosen, Choice, blank-slot, slots-blank, choice, reclaim-says}
+
+-- the free slots of an image, and the sum of its erase counts
+abbrev pub freeIn : Geometry → Image → ℕ
+freeIn geo image = sumBelow (geo .blocks) (freeSlots geo image)
+
+abbrev pub wornIn : Geometry → Image → ℕ
+wornIn geo image = sumBelow (geo .blocks) (eraseCount geo image)
+
+-- what these steps of a write of n leave, cost and pay
+pub record Wrote (geo : Geometry) (image : Image) (n : ℕ) (ws : List ℕ) (steps : List Step) : Type 0 where
+  pub asked : leavesAsked geo image steps ≡ true
+  pub ready : Ready geo (run geo image steps)
+  pub still-blank : R6 geo (run geo image steps) ≡ true
+  pub here : mapOf geo (run geo image steps) n ≡ some ws
+  pub other : (m : ℕ) → m ≢ n → mapOf geo (run geo image steps) m ≡ mapOf geo image m
+  pub erases : erasuresIn steps ≤ 1
+  pub plain : erasuresIn steps ≡ 0 → wordsIn steps ≤ 135
+  pub words : wordsIn steps + 133 * g geo ≤ 133 * d geo + 136
+  pub worn : wornIn geo (run geo image steps) ≡ wornIn geo image + erasuresIn steps
+  pub paid : freeIn geo image + g geo * erasuresIn steps ≤ freeIn geo (run geo image steps) + 1
+  pub low : erasuresIn steps ≡ 1 → freeIn geo image ≡ d geo
+
+-- what is written: a number and a sector
+pub record Sector (geo : Geometry) (n : ℕ) (ws : List ℕ) : Type 0 where
+  pub number : n < geo .logical
+  pub long : length ws ≡ sectorWords
+  pub words : Words32 ws
+
+-- ---- rules 1 and 2
+
+module _ (geo : Geometry) (image : Image) (n : ℕ) (ws : List ℕ) (start : Ready geo image) (sector : Sector geo n ws) (c : Choice geo image) where
+  within : Limits geo
+  within = start .shaped .limits
+
+  abbrev b : ℕ
+  b = c .b
+
+  abbrev i : ℕ
+  i = c .i
+
+  abbrev after : Image
+  after = run geo image (placing geo image n ws b i)
+
+  target : Target geo image n ws b i
+  target =
+      record {
+        number = sector .number;
+        long = sector .long;
+        words = sector .words;
+        block = c .chosen .block;
+        slot-of = c .chosen .slot-of;
+        free = c .chosen .free;
+      }
+
+  p : Placed geo image after n ws b i
+  p = placing-placed geo image n ws b i start target
+
+  ready-after : Ready geo after
+  ready-after =
+      record {
+        shaped = placing-shaped geo image n ws b i start target;
+        words = placing-words32 geo image n ws b i start target;
+        sound = placed-sound geo image after n ws b i start target p (placing-bounds geo image n ws b i start target) (placing-words32 geo image n ws b i start target);
+      }
+
+  -- the spare block is still blank
+  blank-after : R6 geo after ≡ true
+  unfolding R6 blank
+  blank-after =
+      let spare = c .chosen .spare in
+      any-of (geo .blocks) (blank geo after) (c .chosen .spare-in)
+      (all-of (d geo)
+      (λ j l.
+      free-as-before geo image after n ws b i start target p spare j (c .chosen .spare-in) l (λ x y. c .chosen .spare-other x)
+      ∙ ap isFree (blank-slot geo image within spare (c .chosen .spare-blank) j l)))
+
+  placed-wrote : Wrote geo image n ws (placing geo image n ws b i)
+  placed-wrote =
+      let none = placing-erasures geo image n ws b i in
+      let cost = placing-cost geo image n ws b i start target in
+      let few : wordsIn (placing geo image n ws b i) ≤ 135 =
+      omega (arith, cost, one-if-le (isAt (find geo image n)), one-if-le (full geo after b)) in
+      let paid = placed-free geo image after n ws b i start target p in
+      record {
+        asked = placing-exact geo image n ws b i start target .asked;
+        ready = ready-after;
+        still-blank = blank-after;
+        here = placed-here geo image after n ws b i start target p (placing-bounds geo image n ws b i start target) (placing-words32 geo image n ws b i start target);
+        other = placed-other geo image after n ws b i start target p (placing-bounds geo image n ws b i start target) (placing-words32 geo image n ws b i start target);
+        erases = omega (arith, none);
+        plain = λ e. few;
+        words = omega (arith, few, g-at-most-d geo within);
+        worn = sum-ext (geo .blocks) (λ x l. p .counts x l) ∙ omega (arith, none);
+        paid = rw none (omega (arith, paid));
+        low = λ e. absurd (omega (arith, none));
+      }
+
+  pub filling-wrote : Wrote geo image n ws (filling geo image n ws)
+  filling-wrote = rw (c .chosen .steps n ws) placed-wrote
+
+-- ---- rule 3, with any full block of at least g dead slots whose count is below the ceiling
+
+pub record Reclaimable (geo : Geometry) (image : Image) (v : ℕ) : Type 0 where
+  pub block : v < geo .blocks
+  pub filled : full geo image v ≡ true
+  pub dead : g geo ≤ deadSlots geo image v
+  pub wearable : eraseCount geo image v < ceiling
+
+module _
+    (geo : Geometry) (image : Image) (start : Ready geo image)
+    (must : mustReclaim geo image ≡ true)
+    (v : ℕ) (victim-is : Reclaimable geo image v)
+  where
+    limits : Limits geo
+    limits = start .shaped .limits
+
+    none-open : (c : ℕ) → c < geo .blocks → isOpen geo image c ≡ false
+    none-open = reclaim-says geo image limits must .0
+
+    one-blank : countBelow (geo .blocks) (blank geo image) ≡ 1
+    one-blank = reclaim-says geo image limits must .1
+
+    -- the blank block
+    abbrev t : ℕ
+    t = leastWornBlank geo image
+
+    some-blank : (c : ℕ) × (c < geo .blocks) × (blank geo image c ≡ true)
+    some-blank = count-positive (geo .blocks) (blank geo image) (omega (arith, one-blank))
+
+    pub blank-in : t < geo .blocks
+    unfolding leastWornBlank
+    blank-in = best-some (lessWorn geo image) (geo .blocks) (blank geo image) (some-blank .1) (some-blank .2)
+
+    is-blank : blank geo image t ≡ true
+    unfolding leastWornBlank
+    is-blank = best-passes (lessWorn geo image) (geo .blocks) (blank geo image) blank-in
+
+    apart : v ≢ t
+    apart e = blank-not-full geo image (start .sound) limits t is-blank (ap (full geo image) (sym e) ∙ victim-is .filled)
+
+    live-few : liveSlots geo image v + g geo ≤ d geo
+    live-few =
+        omega (arith, block-parts geo image (start .sound) v (victim-is .block), full-free geo image (start .sound) v (victim-is .filled), victim-is .dead)
+
+    spare : liveSlots geo image v < d geo
+    spare = omega (arith, live-few, g-positive geo limits)
+
+    abbrev base : Image
+    base = run geo image (reclaiming geo image v)
+
+    r : Reclaimed geo image v t (reclaiming geo image v)
+    unfolding reclaiming
+    r =
+        reclaimed geo image v t start (victim-is .block) blank-in apart
+        (blank-slot geo image limits t is-blank) spare (victim-is .wearable)
+
+    -- afterwards no reclaim is needed: the victim is blank, and the other block is open or blank too
+    victim-blank : blank geo base v ≡ true
+    victim-blank = slots-blank geo base limits v (r .emptied)
+
+    target-blank : liveSlots geo image v ≡ 0 → blank geo base t ≡ true
+    target-blank e = slots-blank geo base limits t (λ j l. r .left-free j (omega arith) l)
+
+    target-open : 1 ≤ liveSlots geo image v → isOpen geo base t ≡ true
+    unfolding blank full
+    target-open l =
+        let some-used = not-all (d geo) (λ j. isFree (slot geo base t j)) {i = 0} (d-positive geo limits) (r .used 0 l) in
+        let some-free =
+        any-of (d geo) (λ j. isFree (slot geo base t j)) {i = liveSlots geo image v} spare
+        (ap isFree (r .left-free (liveSlots geo image v) (omega arith) spare)) in
+        rw (some-used, some-free)
+
+    pub no-more : mustReclaim geo base ≡ false
+    no-more = unless (mustReclaim geo base) (λ again. go (reclaim-says geo base limits again) (ℕ-discrete (liveSlots geo image v) 0))
+      where
+        go :
+            ((c : ℕ) → c < geo .blocks → isOpen geo base c ≡ false) × (countBelow (geo .blocks) (blank geo base) ≡ 1) →
+            Dec (liveSlots geo image v ≡ 0) →
+            ⊥
+        go says (yes e) = apart (count-one (geo .blocks) (blank geo base) (says .1) (victim-is .block) blank-in victim-blank (target-blank e))
+        go says (no n) = true≢false (sym (target-open (omega arith)) ∙ says .0 t blank-in)
+
+    pub reclaim-choice : Choice geo base
+    reclaim-choice = choice geo base limits (victim-is .block) victim-blank no-more
+
+    pub reclaim-ready : Ready geo base
+    reclaim-ready = r .ready
+
+    -- the free slots grow by the dead slots of the victim
+    free-of-target : freeSlots geo base t + liveSlots geo image v ≡ d geo
+    free-of-target =
+        count-from (d geo) (liveSlots geo image v) {f = λ j. isFree (slot geo base t j)} (omega (arith, spare)) (λ j l. r .used j l) (λ j l h. ap isFree (r .left-free j l h))
+
+    gained : freeIn geo base ≡ freeIn geo image + deadSlots geo image v
+    gained =
+        let change =
+        sum-update-two (geo .blocks) {f = freeSlots geo image} {f' = freeSlots geo base} (victim-is .block) blank-in apart
+        (λ c l n n'. sum-ext (d geo) (λ j h. ap (λ (s : Slot). one-if (isFree s)) (r .others c j l n n' h))) in
+        omega (
+          arith,
+          change,
+          free-of-target,
+          blank-free geo base (r .ready .sound) v victim-blank,
+          blank-free geo image (start .sound) t is-blank,
+          full-free geo image (start .sound) v (victim-is .filled),
+          block-parts geo image (start .sound) v (victim-is .block),
+        )
+
+    worn-by-one : wornIn geo base ≡ wornIn geo image + 1
+    worn-by-one =
+        omega (
+          arith,
+          sum-update (geo .blocks) {f = eraseCount geo image} {f' = eraseCount geo base} (victim-is .block) (λ c l n. r .counts c l n),
+          r .count,
+        )
+
+    module _ (n : ℕ) (ws : List ℕ) (sector : Sector geo n ws) where
+      abbrev first : List Step
+      first = reclaiming geo image v
+
+      abbrev second : List Step
+      second = filling geo base n ws
+
+      w : Wrote geo base n ws second
+      w = filling-wrote geo base n ws (r .ready) sector reclaim-choice
+
+      placed : erasuresIn second ≡ 0
+      placed = ap erasuresIn (reclaim-choice .chosen .steps n ws) ∙ placing-erasures geo base n ws (reclaim-choice .b) (reclaim-choice .i)
+
+      same-image : run geo image (first ++ second) ≡ run geo base second
+      same-image = run-append geo image first second
+
+      once : erasuresIn (first ++ second) ≡ 1
+      once = omega (arith, erasures-append first second, r .erasures, placed)
+
+      pub reclaiming-wrote : Wrote geo image n ws (reclaimingFirst geo image v n ws)
+      unfolding reclaimingFirst
+      reclaiming-wrote =
+          record {
+            asked = asked-append geo image first second ∙ ap₂ _&&_ (r .asked) (w .asked);
+            ready = rw same-image (w .ready);
+            still-blank = rw same-image (w .still-blank);
+            here = rw same-image (w .here);
+            other = λ m x. rw same-image (w .other m x ∙ r .map m);
+            erases = omega (arith, once);
+            plain = λ e. absurd (omega (arith, once));
+            words = omega (arith, words-append first second, r .words, w .plain placed, live-few);
+            worn = rw (same-image, once) (w .worn ∙ omega (arith, worn-by-one, placed));
+            paid = rw (same-image, once) (omega (arith, gained, victim-is .dead, rw placed at (w .paid)));
+            low = λ e. free-is-a-block geo image (start .sound) limits none-open one-blank;
+          }
+
+-- ---- the write
+
+-- the victim by the usual rule is such a block, unless its count is at the ceiling
+module _ (geo : Geometry) (image : Image) (start : Ready geo image) (must : mustReclaim geo image ≡ true) where
+  rule-limits : Limits geo
+  rule-limits = start .shaped .limits
+
+  abbrev says : ((c : ℕ) → c < geo .blocks → isOpen geo image c ≡ false) × (countBelow (geo .blocks) (blank geo image) ≡ 1)
+  says = reclaim-says geo image rule-limits must
+
+  -- of blocks 0 and 1 one is not blank, so it is full
+  some-full : (c : ℕ) × (c < geo .blocks) × (full geo image c ≡ true)
+  some-full = go (blank geo image 0) refl (blank geo image 1) refl
+    where
+      zero-in : 0 < geo .blocks
+      zero-in = omega (arith, rule-limits .blocks-low)
+
+      one-in : 1 < geo .blocks
+      one-in = omega (arith, rule-limits .blocks-low)
+
+      go : (x : Bool) → blank geo image 0 ≡ x → (y : Bool) → blank geo image 1 ≡ y → (c : ℕ) × (c < geo .blocks) × (full geo image c ≡ true)
+      go false e y e' = (0, zero-in, shut-full geo image (start .sound) 0 (says .0 0 zero-in) e)
+      go true e false e' = (1, one-in, shut-full geo image (start .sound) 1 (says .0 1 one-in) e')
+      go true e true e' = absurd (let z = count-one (geo .blocks) (blank geo image) (says .1) zero-in one-in e e' in omega arith)
+
+  pub victim-reclaimable : (eraseCount geo image (victim geo image) ≡ ceiling → ⊥) → Reclaimable geo image (victim geo image)
+  unfolding victim
+  victim-reclaimable below =
+      let inside = best-some (preferred geo image) (geo .blocks) (full geo image) (some-full .1) (some-full .2) in
+      record {
+        block = inside;
+        filled = best-passes (preferred geo image) (geo .blocks) (full geo image) inside;
+        dead = victim-dead geo image (start .sound) rule-limits (says .0) (says .1) (start .words);
+        wearable = omega (arith, start .sound .worn (victim geo image) inside);
+      }
+
+-- an accepted write
+pub writing-wrote :
+    (geo : Geometry) (image : Image) (n : ℕ) (ws : List ℕ) →
+    Ready geo image →
+    R6 geo image ≡ true →
+    Sector geo n ws →
+    (mustReclaim geo image ≡ true → eraseCount geo image (victim geo image) ≡ ceiling → ⊥) →
+    Wrote geo image n ws (writing geo image n ws)
+unfolding writing R6
+writing-wrote geo image n ws start formed sector below = go (mustReclaim geo image) refl
+  where
+    go : (x : Bool) → mustReclaim geo image ≡ x → Wrote geo image n ws (writing geo image n ws)
+    go true must =
+        rw must (reclaiming-wrote geo image start must (victim geo image) (victim-reclaimable geo image start must (below must)) n ws sector)
+    go false no-need =
+        let empty = any-at (geo .blocks) (blank geo image) formed in
+        rw no-need (filling-wrote geo image n ws start sector (choice geo image (start .shaped .limits) (empty .1) (empty .2) no-need))

@@ -1,0 +1,263 @@
+-- R1 to R5 and R7 as facts about slots, and back: `sound` passes exactly where they hold. What a step keeps is shown of the facts.
+-- Assumes nothing.
+use mathlib.Core.Path.{_≡_, refl, sym, ap, _∙_}
+use mathlib.Core.Logic.{_⊎_, inl, inr, ⊎-elim}
+use mathlib.Core.Bool.{Bool, true, false, not, cond, Bool·beq, _&&_, _||_, true≢false, false≢true}
+use Prim.Native.Nat.{ℕ, _+_, _*_, _-_, _<_, _≤_}
+use native.Mathlib.Decide.{decLt, ℕ-discrete}
+use native.Mathlib.Omega.{arith}
+use lib.Dec.{eqb, leb}
+use lib.ListN.{getD}
+use borrow.Author.Tests.{eq-eqb, eqb-true, le-leb, leb-true, not-true, not-false}
+use Rattle.ranges.specs.Range.{_implies_, allBelow, anyBelow}
+use Rattle.ranges.proofs.Tests.{passes-or-fails, both-pass, neither-passes, all-at, all-of, any-at, any-of, none-at, none-of}
+use Rattle.bits.specs.Word.{ones}
+use Rattle.geometry.specs.declared.Geometry.{Geometry}
+use Rattle.geometry.specs.Geometry.{d, k, sectorWords}
+use Rattle.geometry.specs.Places.{place, entryWord}
+use Rattle.image.specs.declared.Slot.{Slot}
+use Rattle.image.specs.declared.Slot.the-variants.{Free, Live, Dead, Faulty}
+use Rattle.image.specs.Words.{Image, Words32, eraseCount, leastMapped, greatestMapped, mapBit, entry, contents}
+use Rattle.image.specs.Slots.{slot, isFree, isFreeEntry, isFaulty, isLiveWith, isLiveFor, liveIn}
+use Rattle.image.specs.Blocks.{full}
+use Rattle.image.specs.WellFormed.{ceiling, allOnes, mapAgrees, restSet, liveBefore, outOfBounds, boundsBlank, R1, R2, R3, R4, R5, R7, soundBlock, sound}
+use Rattle.image.proofs.Entries.{live-entry}
+use Rattle.image.proofs.Reading.{map-says, map-rest, free-read}
+
+-- ---- a live slot's number
+
+pub live-for : (n : ℕ) (s : Slot) → isLiveFor n s ≡ true → s ≡ Live n
+live-for n Free e = absurd (false≢true e)
+live-for n (Live m) e = ap Live (eqb-true m n e)
+live-for n Dead e = absurd (false≢true e)
+live-for n Faulty e = absurd (false≢true e)
+
+pub live-is-for : {n : ℕ} {s : Slot} → s ≡ Live n → isLiveFor n s ≡ true
+live-is-for {n} e = rw e (eq-eqb n n refl)
+
+-- and its word, in an image of words of 32 bits
+pub live-word :
+    (geo : Geometry) (image : Image) (b i : ℕ) {n : ℕ} → Words32 image → slot geo image b i ≡ Live n → (entry geo image b i ≡ 0xC0000000 + n) × (n < geo .logical)
+unfolding slot entry
+live-word geo image b i {n} words e =
+    live-entry (geo .logical) (entry geo image b i) n (words .small (place geo b (entryWord geo i))) e
+
+-- no slot but a live one passes a test of its number
+pub each-live : {f : ℕ → Bool} (s : Slot) → ((n : ℕ) → s ≡ Live n → f n ≡ false) → not (isLiveWith f s) ≡ true
+each-live Free h = refl
+each-live (Live n) h = rw (h n refl)
+each-live Dead h = refl
+each-live Faulty h = refl
+
+pub live-fails : (f : ℕ → Bool) {n : ℕ} {s : Slot} → not (isLiveWith f s) ≡ true → s ≡ Live n → f n ≡ false
+live-fails f {n} h e = not-true (f n) (rw e at h)
+
+pub free-is : (s : Slot) → isFree s ≡ true → s ≡ Free
+free-is Free e = refl
+free-is (Live n) e = absurd (false≢true e)
+free-is Dead e = absurd (false≢true e)
+free-is Faulty e = absurd (false≢true e)
+
+-- ---- the facts
+
+pub record Sound (geo : Geometry) (image : Image) : Type 0 where
+  pub worn : (b : ℕ) → b < geo .blocks → eraseCount geo image b ≤ ceiling
+  pub map : (b i : ℕ) → b < geo .blocks → i < d geo → mapBit geo image b i ≡ isFree (slot geo image b i)
+  pub rest : (b i : ℕ) → b < geo .blocks → d geo ≤ i → i < 32 * k geo → mapBit geo image b i ≡ true
+  pub clean :
+      (b i : ℕ) → b < geo .blocks → i < d geo → slot geo image b i ≡ Free → (j : ℕ) → j < sectorWords → getD (contents geo image b i) j 0 ≡ ones
+  pub proper : (b i : ℕ) → b < geo .blocks → i < d geo → isFaulty (slot geo image b i) ≡ false
+  pub once :
+      (n b c i j : ℕ) →
+      b < geo .blocks →
+      c < geo .blocks →
+      i < d geo →
+      j < d geo →
+      slot geo image b i ≡ Live n →
+      slot geo image c j ≡ Live n →
+      (b ≡ c) × (i ≡ j)
+  pub unbounded : (b : ℕ) → b < geo .blocks → full geo image b ≡ false → (leastMapped geo image b ≡ ones) × (greatestMapped geo image b ≡ ones)
+  pub bounded :
+      (b i n : ℕ) →
+      b < geo .blocks →
+      i < d geo →
+      full geo image b ≡ true →
+      slot geo image b i ≡ Live n →
+      (leastMapped geo image b ≤ n) × (n ≤ greatestMapped geo image b)
+
+-- ---- tests
+
+pub unless : (x : Bool) → (x ≡ true → ⊥) → x ≡ false
+unless true k = absurd (k refl)
+unless false k = refl
+
+beq-same : (x y : Bool) → x ≡ y → Bool·beq x y ≡ true
+beq-same true true e = refl
+beq-same true false e = absurd (true≢false e)
+beq-same false true e = absurd (false≢true e)
+beq-same false false e = refl
+
+-- a test that is asked only where another passes
+asked : (a b : Bool) → (a implies b) ≡ true → a ≡ true → b ≡ true
+asked true b h e = h
+asked false b h e = absurd (false≢true e)
+
+module _ (geo : Geometry) (image : Image) where
+  record Rules (b : ℕ) : Type 0 where
+    r1 : R1 geo image b ≡ true
+    r2 : R2 geo image b ≡ true
+    r3 : R3 geo image b ≡ true
+    r4 : R4 geo image b ≡ true
+    r5 : R5 geo image b ≡ true
+    r7 : R7 geo image b ≡ true
+
+  rules : sound geo image ≡ true → (b : ℕ) → b < geo .blocks → Rules b
+  unfolding sound soundBlock
+  rules t b l =
+      let all = all-at (geo .blocks) (soundBlock geo image) t b l in
+      let s = both-pass _ (R7 geo image b) all in
+      let s5 = both-pass _ (R5 geo image b) (s .0) in
+      let s4 = both-pass _ (R4 geo image b) (s5 .0) in
+      let s3 = both-pass _ (R3 geo image b) (s4 .0) in
+      let s2 = both-pass (R1 geo image b) (R2 geo image b) (s3 .0) in
+      record { r1 = s2 .0; r2 = s2 .1; r3 = s3 .1; r4 = s4 .1; r5 = s5 .1; r7 = s .1 }
+
+  unrules : ((b : ℕ) → b < geo .blocks → Rules b) → sound geo image ≡ true
+  unfolding sound soundBlock
+  unrules h = all-of (geo .blocks) (λ b l. let r = h b l in rw (r .r1, r .r2, r .r3, r .r4, r .r5, r .r7))
+
+  -- ---- from the rules to the facts
+
+  -- R5: a number that is live in slot i of block b is live in no earlier slot
+  not-before : (b i n : ℕ) → R5 geo image b ≡ true → i < d geo → slot geo image b i ≡ Live n → liveBefore geo image b i n ≡ false
+  unfolding R5
+  not-before b i n r l e = live-fails (liveBefore geo image b i) (all-at (d geo) _ r i l) e
+
+  -- no slot of an earlier block, and no earlier slot of this one, is live for n
+  none-before :
+      (b i n : ℕ) →
+      R5 geo image b ≡ true →
+      i < d geo →
+      slot geo image b i ≡ Live n →
+      (anyBelow b (λ c. liveIn geo image c n) ≡ false) × (anyBelow i (λ j. isLiveFor n (slot geo image b j)) ≡ false)
+  none-before b i n r l e =
+      neither-passes (anyBelow b (λ c. liveIn geo image c n)) (anyBelow i (λ j. isLiveFor n (slot geo image b j))) (not-before b i n r l e)
+
+  earlier-block :
+      (b c i j n : ℕ) → R5 geo image b ≡ true → c < b → i < d geo → j < d geo → slot geo image b i ≡ Live n → slot geo image c j ≡ Live n → ⊥
+  earlier-block b c i j n r l p q e e' =
+      let none = none-at (d geo) (λ j. isLiveFor n (slot geo image c j)) (none-at b (λ c. liveIn geo image c n) (none-before b i n r p e .0) c l) in
+      true≢false (sym (live-is-for e') ∙ none j q)
+
+  earlier-slot :
+      (b i j n : ℕ) → R5 geo image b ≡ true → j < i → i < d geo → slot geo image b i ≡ Live n → slot geo image b j ≡ Live n → ⊥
+  earlier-slot b i j n r l p e e' =
+      true≢false (sym (live-is-for e') ∙ none-at i (λ j. isLiveFor n (slot geo image b j)) (none-before b i n r p e .1) j l)
+
+  pub sound-facts : sound geo image ≡ true → Sound geo image
+  unfolding R1 R3 R4 R7
+  sound-facts t =
+      record {
+        worn = λ b l. leb-true _ _ (rules t b l .r1);
+        map = λ b i l h. map-says geo image b (rules t b l .r2) i h;
+        rest = λ b i l h m. map-rest geo image b (rules t b l .r2) i h m;
+        clean = λ b i l h e j q.
+            eqb-true _ _ (all-at sectorWords _ (asked _ _ (all-at (d geo) _ (rules t b l .r3) i h) (ap isFree e)) j q);
+        proper = λ b i l h. not-true _ (all-at (d geo) _ (rules t b l .r4) i h);
+        once = λ n b c i j l m p q e e'. same n b c i j l m p q e e' (decLt c b) (decLt b c);
+        unbounded = λ b l f.
+            let both = both-pass _ _ (rw f at (rules t b l .r7)) in
+            (eqb-true _ _ (both .0), eqb-true _ _ (both .1));
+        bounded = λ b i n l h f e.
+            let inside = both-pass _ _ (not-false _ (live-fails (outOfBounds geo image b) (all-at (d geo) _ (rw f at (rules t b l .r7)) i h) e)) in
+            (leb-true _ _ (inside .0), leb-true _ _ (inside .1));
+      }
+    where
+      in-block :
+          (n b i j : ℕ) → b < geo .blocks → i < d geo → j < d geo → slot geo image b i ≡ Live n → slot geo image b j ≡ Live n → Dec (j < i) → Dec (i < j) → i ≡ j
+      in-block n b i j l p q e e' (yes h) m = absurd (earlier-slot b i j n (rules t b l .r5) h p e e')
+      in-block n b i j l p q e e' (no h) (yes m) = absurd (earlier-slot b j i n (rules t b l .r5) m q e' e)
+      in-block n b i j l p q e e' (no h) (no m) = omega arith
+
+      same :
+          (n b c i j : ℕ) →
+          b < geo .blocks →
+          c < geo .blocks →
+          i < d geo →
+          j < d geo →
+          slot geo image b i ≡ Live n →
+          slot geo image c j ≡ Live n →
+          Dec (c < b) →
+          Dec (b < c) →
+          (b ≡ c) × (i ≡ j)
+      same n b c i j l m p q e e' (yes h) g = absurd (earlier-block b c i j n (rules t b l .r5) h p q e e')
+      same n b c i j l m p q e e' (no h) (yes g) = absurd (earlier-block c b j i n (rules t c m .r5) g q p e' e)
+      same n b c i j l m p q e e' (no h) (no g) =
+          let s : b ≡ c = omega arith in
+          (s, in-block n b i j l p q e (ap (λ (x : ℕ). slot geo image x j) s ∙ e') (decLt j i) (decLt i j))
+
+  -- ---- and back
+
+  module _ (s : Sound geo image) (b : ℕ) (l : b < geo .blocks) where
+    kept-1 : R1 geo image b ≡ true
+    unfolding R1
+    kept-1 = le-leb _ _ (s .worn b l)
+
+    kept-2 : R2 geo image b ≡ true
+    unfolding R2
+    kept-2 =
+        let agrees : mapAgrees geo image b ≡ true =
+        all-of (d geo) (λ i h. beq-same _ _ (s .map b i l h ∙ free-read geo image b i)) in
+        let set : restSet geo image b ≡ true = all-of (32 * k geo - d geo) (λ j h. s .rest b (d geo + j) l (omega arith) (omega arith)) in
+        rw (agrees, set)
+
+    kept-3 : R3 geo image b ≡ true
+    unfolding R3
+    kept-3 = all-of (d geo) (λ i h. go i h (isFree (slot geo image b i)) refl)
+      where
+        go : (i : ℕ) → i < d geo → (f : Bool) → isFree (slot geo image b i) ≡ f → (f implies allOnes (contents geo image b i)) ≡ true
+        go i h true e = all-of sectorWords (λ j q. eq-eqb _ _ (s .clean b i l h (free-is _ e) j q))
+        go i h false e = refl
+
+    kept-4 : R4 geo image b ≡ true
+    unfolding R4
+    kept-4 = all-of (d geo) (λ i h. ap not (s .proper b i l h))
+
+    blocks-before : (i n : ℕ) → i < d geo → slot geo image b i ≡ Live n → anyBelow b (λ c. liveIn geo image c n) ≡ false
+    blocks-before i n h e =
+        none-of b
+        (λ c m. none-of (d geo)
+        (λ j q. unless _ (λ t. let same = s .once n b c i j l (omega arith) h q e (live-for n _ t) in omega arith)))
+
+    slots-before : (i n : ℕ) → i < d geo → slot geo image b i ≡ Live n → anyBelow i (λ j. isLiveFor n (slot geo image b j)) ≡ false
+    slots-before i n h e =
+        none-of i (λ j q. unless _ (λ t. let same = s .once n b b i j l l h (omega arith) e (live-for n _ t) in omega arith))
+
+    kept-5 : R5 geo image b ≡ true
+    unfolding R5
+    kept-5 =
+        all-of (d geo) (λ i h. each-live (slot geo image b i) (λ n e. rw (blocks-before i n h e, slots-before i n h e)))
+
+    kept-7 : (f : Bool) → full geo image b ≡ f → R7 geo image b ≡ true
+    unfolding R7
+    kept-7 true f =
+        rw f
+        (all-of (d geo)
+        (λ i h. each-live (slot geo image b i)
+        (λ n e. let in-between = s .bounded b i n l h f e in rw (le-leb _ _ (in-between .0), le-leb _ _ (in-between .1)))))
+    kept-7 false f =
+        let both = s .unbounded b l f in
+        rw (f, eq-eqb _ _ (both .0), eq-eqb _ _ (both .1))
+
+  pub facts-sound : Sound geo image → sound geo image ≡ true
+  facts-sound s =
+      unrules
+      (λ b l.
+      record {
+        r1 = kept-1 s b l;
+        r2 = kept-2 s b l;
+        r3 = kept-3 s b l;
+        r4 = kept-4 s b l;
+        r5 = kept-5 s b l;
+        r7 = kept-7 s b l (full geo image b) refl;
+      })

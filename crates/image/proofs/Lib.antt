@@ -1,0 +1,6 @@
+pub mod Entries
+pub mod Reading
+pub mod Facts
+pub mod Finding
+pub mod Places
+pub mod Capacity

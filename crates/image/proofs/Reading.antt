@@ -1,0 +1,89 @@
+-- Where the code reads, and what the counts say of a block: laws that the functions of this crate share. Assumes nothing.
+use mathlib.Core.Path.{_≡_, refl, sym, ap, ap₂, _∙_}
+use mathlib.Core.Bool.{Bool, true, false, not, Bool·beq, _&&_}
+use Prim.Native.Nat.{ℕ, _+_, _*_, _-_, _/_, _%_, _<_, _≤_}
+use native.Mathlib.Omega.{arith}
+use lib.Dec.{eqb}
+use lib.ListN.{length}
+use Rattle.ranges.specs.Range.{allBelow, anyBelow, countBelow}
+use Rattle.ranges.proofs.Tests.{both-pass, all-at}
+use Rattle.ranges.proofs.Sums.{all-count, any-count}
+use Rattle.geometry.specs.declared.Geometry.{Geometry}
+use Rattle.geometry.specs.Geometry.{d, k, blockLength, sectorWords}
+use Rattle.geometry.specs.Places.{place, entryWord, mapWord, contentWord}
+use Rattle.geometry.proofs.Laws.{block-inside, place-inside, management-inside, management-fits, entry-word-inside, map-word-inside, content-word-inside}
+use Rattle.image.specs.Words.{Image, Shaped, word, freeMap, mapBit, entry}
+use Rattle.image.specs.Slots.{slotOf, slot, isFree, isFreeEntry}
+use Rattle.image.specs.Blocks.{blank, full, isOpen, freeSlots}
+use Rattle.image.specs.WellFormed.{mapAgrees, restSet, R2}
+use Rattle.image.proofs.Entries.{free-test}
+
+module _ (geo : Geometry) (image : Image) where
+  -- block b ends within the image
+  pub block-room : Shaped geo image → (b : ℕ) → b < geo .blocks → b * blockLength geo + blockLength geo ≤ length image
+  block-room shaped b l = omega (arith, block-inside geo l, shaped .long)
+
+  -- every word of a block lies in the image; among them an entry, a map word and the contents of a slot
+  pub word-inside : Shaped geo image → {b j : ℕ} → b < geo .blocks → j < blockLength geo → place geo b j < length image
+  word-inside shaped l h = omega (arith, place-inside geo l h, shaped .long)
+
+  pub entry-inside : Shaped geo image → {b i : ℕ} → b < geo .blocks → i < d geo → place geo b (entryWord geo i) < length image
+  entry-inside shaped l h =
+      word-inside shaped l (management-inside geo (shaped .limits) (entry-word-inside geo (shaped .limits) h))
+
+  pub map-inside : Shaped geo image → {b i : ℕ} → b < geo .blocks → i < 32 * k geo → place geo b (mapWord i) < length image
+  map-inside shaped l h =
+      word-inside shaped l
+      (management-inside geo (shaped .limits)
+      (omega (arith, map-word-inside geo (shaped .limits) h, management-fits geo (shaped .limits))))
+
+  pub contents-inside :
+      Shaped geo image → {b i : ℕ} → b < geo .blocks → i < d geo → place geo b (contentWord geo i 0) + sectorWords ≤ length image
+  contents-inside shaped l h =
+      omega (arith, word-inside shaped l (content-word-inside geo (shaped .limits) {j = 127} h (omega arith)))
+
+  -- a slot by the word that the code reads: p is the place of its entry, however it was added up
+  pub slot-read : (b i p : ℕ) → p ≡ place geo b (entryWord geo i) → slotOf (geo .logical) (word image p) ≡ slot geo image b i
+  unfolding slot entry
+  slot-read b i p e = ap (λ (q : ℕ). slotOf (geo .logical) (word image q)) e
+
+  -- a free slot by its entry
+  pub free-read : (b i : ℕ) → isFree (slot geo image b i) ≡ isFreeEntry (entry geo image b i)
+  unfolding slot
+  free-read b i = free-test (geo .logical) (entry geo image b i)
+
+  -- R2: the map's bit of a slot says whether it is free, and the bits from d on are set
+  pub map-says : (b : ℕ) → R2 geo image b ≡ true → (i : ℕ) → i < d geo → mapBit geo image b i ≡ isFree (slot geo image b i)
+  unfolding R2
+  map-says b r i l =
+      beq-true (mapBit geo image b i) (isFreeEntry (entry geo image b i)) (all-at (d geo) _ (both-pass (mapAgrees geo image b) (restSet geo image b) r .0) i l)
+      ∙ sym (free-read b i)
+    where
+      beq-true : (x y : Bool) → Bool·beq x y ≡ true → x ≡ y
+      beq-true true true e = refl
+      beq-true true false e = sym e
+      beq-true false true e = e
+      beq-true false false e = refl
+
+  pub map-rest : (b : ℕ) → R2 geo image b ≡ true → (i : ℕ) → d geo ≤ i → i < 32 * k geo → mapBit geo image b i ≡ true
+  unfolding R2
+  map-rest b r i h l =
+      let at : d geo + (i - d geo) ≡ i = omega arith in
+      sym (ap (mapBit geo image b) at)
+      ∙ all-at (32 * k geo - d geo) _ (both-pass (mapAgrees geo image b) (restSet geo image b) r .1) (i - d geo) (omega arith)
+
+  -- blank, full and open by the number of free slots
+  pub blank-count : (b : ℕ) → blank geo image b ≡ eqb (freeSlots geo image b) (d geo)
+  unfolding blank
+  blank-count b = all-count (d geo) (λ i. isFree (slot geo image b i))
+
+  pub full-count : (b : ℕ) → full geo image b ≡ eqb (freeSlots geo image b) 0
+  unfolding full
+  full-count b = ap not (any-count (d geo) (λ i. isFree (slot geo image b i))) ∙ not-not (eqb (freeSlots geo image b) 0)
+    where
+      not-not : (x : Bool) → not (not x) ≡ x
+      not-not true = refl
+      not-not false = refl
+
+  pub open-count : (b : ℕ) → isOpen geo image b ≡ (not (eqb (freeSlots geo image b) (d geo)) && not (eqb (freeSlots geo image b) 0))
+  open-count b = ap₂ (λ (x y : Bool). not x && not y) (blank-count b) (full-count b)

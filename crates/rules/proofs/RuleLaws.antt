@@ -1,0 +1,220 @@
+-- What the check of an image goes by: tests over a block's slots, read as the code reads them. Assumes nothing.
+use mathlib.Core.List.{List}
+use mathlib.Core.Path.{_≡_, refl, sym, ap, _∙_}
+use mathlib.Core.Bool.{Bool, true, false, not, cond, _&&_, _||_, or-true, or-false, or-assoc, false≢true}
+use Prim.Native.Nat.{ℕ, zero, suc, _+_, _*_, _-_, _/_, _%_, _<_, _≤_}
+use native.Mathlib.Numerals.{add-one}
+use native.Mathlib.Decide.{ℕ-discrete}
+use native.Mathlib.Omega.{arith}
+use lib.Bits.{bitAnd, and-le-l, and-le-r, and-self}
+use lib.Dec.{eqb, ltb}
+use lib.ListN.{length, getD, take, drop, set, replicate, length-set, length-replicate, getD-replicate}
+use lib.Seq.{getD-set-same, getD-set-other}
+use borrow.Author.Tests.{eq-eqb, ne-eqb, eqb-true, eqb-false, lt-ltb}
+use Rattle.ranges.specs.Range.{_implies_, allBelow, anyBelow, countBelow}
+use Rattle.ranges.proofs.Tests.{all-at, not-all}
+use Rattle.ranges.proofs.Sums.{any-count}
+use Rattle.bits.specs.Word.{ones, bit, isSet, cleared}
+use Rattle.bits.proofs.Bit.{set-bit, clear-bit, ones-bit}
+use Rattle.bits.proofs.Clearing.{cleared-here, cleared-other}
+use Rattle.geometry.specs.declared.Geometry.{Geometry}
+use Rattle.geometry.specs.Geometry.{d, sectorWords}
+use Rattle.geometry.specs.Places.{place, leastWord, greatestWord, entryWord, mapWord, contentWord}
+use Rattle.image.specs.declared.Slot.{Slot}
+use Rattle.image.specs.declared.Slot.the-variants.{Live}
+use Rattle.image.specs.Words.{Image, word, leastMapped, greatestMapped, freeMap, entry, contents}
+use Rattle.image.specs.Slots.{slot, isFree, isFreeEntry, isLiveWith, isLiveFor, liveIn}
+use Rattle.image.specs.Blocks.{blank}
+use Rattle.image.specs.WellFormed.{allOnes, liveBefore, R1, R2, R3, R4, R5, R6, R7, soundBlock, sound, wellFormed, brokenRule, MapsAgree}
+use Rattle.rules.specs.Marks.{markWords, seen, Marks}
+use Rattle.image.proofs.Reading.{free-read}
+
+-- a test that passes at every index so far, and at the next
+pub all-more : (i : ℕ) (f : ℕ → Bool) → allBelow i f ≡ true → f i ≡ true → allBelow (i + 1) f ≡ true
+unfolding allBelow
+all-more i f before here = rw (add-one i, before) here
+
+-- two words have only ones in common exactly where both are ones
+pub and-ones : (a w : ℕ) → a ≤ ones → w ≤ ones → eqb (bitAnd a w) ones ≡ (eqb a ones && eqb w ones)
+and-ones a w h l = go (eqb a ones) (eqb w ones) refl refl
+  where
+    go : (s t : Bool) → eqb a ones ≡ s → eqb w ones ≡ t → eqb (bitAnd a w) ones ≡ (s && t)
+    go true true p q =
+        let e = eqb-true a ones p in
+        let f = eqb-true w ones q in
+        eq-eqb (bitAnd a w) ones (ap (λ (x : ℕ). bitAnd x w) (e ∙ sym f) ∙ and-self w ∙ f)
+    go true false p q = ne-eqb (bitAnd a w) ones (λ r. eqb-false w ones q (omega (arith, and-le-r a w)))
+    go false t p q = ne-eqb (bitAnd a w) ones (λ r. eqb-false a ones p (omega (arith, and-le-l a w)))
+
+module _ (geo : Geometry) (image : Image) where
+  -- words 1 and 2 of a block, the map word of a slot, and its entry, by the place that the code reads
+  pub least-read : (b p : ℕ) → p ≡ place geo b leastWord → word image p ≡ leastMapped geo image b
+  unfolding leastMapped
+  least-read b p e = ap (word image) e
+
+  pub greatest-read : (b p : ℕ) → p ≡ place geo b greatestWord → word image p ≡ greatestMapped geo image b
+  unfolding greatestMapped
+  greatest-read b p e = ap (word image) e
+
+  pub map-read : (b i p : ℕ) → p ≡ place geo b (mapWord i) → word image p ≡ freeMap geo image b i
+  unfolding freeMap
+  map-read b i p e = ap (word image) e
+
+  pub entry-read : (b i p : ℕ) → p ≡ place geo b (entryWord geo i) → word image p ≡ entry geo image b i
+  unfolding entry
+  entry-read b i p e = ap (word image) e
+
+  -- a slot is free where the word that the code reads is ones
+  free-at : (b i p : ℕ) → p ≡ place geo b (entryWord geo i) → isFree (slot geo image b i) ≡ eqb (word image p) ones
+  free-at b i p e = free-read geo image b i ∙ sym (ap isFreeEntry (entry-read b i p e))
+
+  -- R3's test of a slot, by its entry at p: it passes at one that is not free, and asks the part of the image that is its contents at one that is
+  abbrev pub clean : ℕ → ℕ → Bool
+  clean b i = isFree (slot geo image b i) implies allOnes (contents geo image b i)
+
+  pub clean-taken : (b i p : ℕ) → p ≡ place geo b (entryWord geo i) → (word image p ≡ ones → ⊥) → clean b i ≡ true
+  clean-taken b i p e other = rw (free-at b i p e ∙ ne-eqb (word image p) ones other)
+
+  pub clean-free :
+      (b i p from : ℕ) →
+      p ≡ place geo b (entryWord geo i) →
+      word image p ≡ ones →
+      from ≡ place geo b (contentWord geo i 0) →
+      clean b i ≡ allOnes (take (from + sectorWords - from) (drop from image))
+  unfolding contents
+  clean-free b i p from e free at =
+      let long : from + sectorWords - from ≡ sectorWords = omega arith in
+      rw (free-at b i p e ∙ eq-eqb (word image p) ones free, long, at)
+
+-- ---- the marks of R5
+
+-- after a number is marked it was seen, and every other number is as before
+seen-marked :
+    (marks : List ℕ) (n m : ℕ) →
+    n / 32 < length marks →
+    seen (set marks (n / 32) (cleared (getD marks (n / 32) 0) (n % 32))) m ≡ (seen marks m || eqb n m)
+unfolding seen
+seen-marked marks n m l = go (ℕ-discrete m n)
+  where
+    w : ℕ
+    w = getD marks (n / 32) 0
+
+    bits :
+        (m ≡ n → ⊥) →
+        Dec (m / 32 ≡ n / 32) →
+        bit (getD (set marks (n / 32) (cleared w (n % 32))) (m / 32) 0) (m % 32) ≡ bit (getD marks (m / 32) 0) (m % 32)
+    bits other (yes e) =
+        rw (e, getD-set-same marks (n / 32) (cleared w (n % 32)) 0 l)
+        (cleared-other w (n % 32) (m % 32) (λ q. other (omega arith)))
+    bits other (no apart) =
+        ap (λ (v : ℕ). bit v (m % 32)) (getD-set-other marks (n / 32) (m / 32) (cleared w (n % 32)) 0 apart)
+
+    go : Dec (m ≡ n) → seen (set marks (n / 32) (cleared w (n % 32))) m ≡ (seen marks m || eqb n m)
+    go (yes e) =
+        rw (e, getD-set-same marks (n / 32) (cleared w (n % 32)) 0 l, eq-eqb n n refl)
+        (ap not (clear-bit _ (n % 32) (cleared-here w (n % 32))) ∙ sym (or-true (seen marks n)))
+    go (no other) =
+        ap (λ (x : ℕ). not (eqb x 1)) (bits other (ℕ-discrete (m / 32) (n / 32)))
+        ∙ sym (ap (seen marks m ||_) (ne-eqb n m (λ e. other (sym e))) ∙ or-false (seen marks m))
+
+module _ (geo : Geometry) (image : Image) where
+  -- marks that are all set are right before the first block: no number was seen
+  pub marks-start : geo .logical ≤ 32 * markWords → Marks geo image 0 0 (replicate markWords ones)
+  unfolding seen anyBelow
+  marks-start small =
+      record {
+        long = length-replicate markWords ones;
+        says = λ n l.
+            ap (λ (w : ℕ). not (isSet w (n % 32))) (getD-replicate markWords (n / 32) ones 0 (omega arith))
+            ∙ ap not (set-bit ones (n % 32) (ones-bit 32 (n % 32) (omega arith)));
+      }
+
+  -- those after the last slot of a block are the next block's
+  pub marks-next : {b : ℕ} {marks : List ℕ} → Marks geo image b (d geo) marks → Marks geo image (suc b) 0 marks
+  unfolding anyBelow
+  marks-next {b} m = record { long = m .long; says = λ n l. m .says n l ∙ sym (or-false (liveBefore geo image b (d geo) n)) }
+
+  -- R5's test of slot i
+  abbrev pub fresh : ℕ → ℕ → Bool
+  fresh b i = not (isLiveWith (liveBefore geo image b i) (slot geo image b i))
+
+  module _ {b i : ℕ} {marks : List ℕ} (m : Marks geo image b i marks) where
+    -- marks that learn the number of slot i
+    learnt :
+        (next : List ℕ) →
+        length next ≡ length marks →
+        ((n : ℕ) → seen next n ≡ (seen marks n || isLiveFor n (slot geo image b i))) →
+        Marks geo image b (i + 1) next
+    unfolding anyBelow
+    learnt next e more =
+        record {
+          long = e ∙ m .long;
+          says = λ n l.
+              more n
+              ∙ ap (_|| isLiveFor n (slot geo image b i)) (m .says n l)
+              ∙ rw add-one (or-assoc (anyBelow b (λ c. liveIn geo image c n)) (anyBelow i (λ j. isLiveFor n (slot geo image b j))) (isLiveFor n (slot geo image b i)));
+        }
+
+    -- a slot that is not live passes and leaves the marks
+    pub other-passes :
+        ((f : ℕ → Bool) → isLiveWith f (slot geo image b i) ≡ false) → Marks geo image b (i + 1) marks × (fresh b i ≡ true)
+    other-passes none =
+        (learnt marks refl (λ n. sym (ap (seen marks n ||_) (none (λ (k : ℕ). eqb k n)) ∙ or-false (seen marks n))), ap not (none (liveBefore geo image b i)))
+
+    -- a live slot passes where its number is not marked yet, and is marked then
+    module _ (n : ℕ) (live : slot geo image b i ≡ Live n) where
+      pub live-passes : n < geo .logical → fresh b i ≡ not (seen marks n)
+      live-passes l = ap (λ (s : Slot). not (isLiveWith (liveBefore geo image b i) s)) live ∙ sym (ap not (m .says n l))
+
+      pub live-marked :
+          n / 32 < length marks →
+          Marks geo image b (i + 1) (set marks (n / 32) (cleared (getD marks (n / 32) 0) (n % 32)))
+      live-marked l =
+          learnt _
+          (length-set marks (n / 32) (cleared (getD marks (n / 32) 0) (n % 32)))
+          (λ k. seen-marked marks n k l ∙ sym (ap (λ (s : Slot). seen marks k || isLiveFor k s) live))
+
+-- ---- the rules of a block and of the image together
+
+module _ (geo : Geometry) (image : Image) where
+  -- a block is sound exactly where no rule of its own is broken
+  pub sound-broken : (b : ℕ) → soundBlock geo image b ≡ eqb (brokenRule geo image b) 0
+  unfolding soundBlock brokenRule
+  sound-broken b = go (R1 geo image b) (R2 geo image b) (R3 geo image b) (R4 geo image b) (R5 geo image b) (R7 geo image b)
+    where
+      go :
+          (r₁ r₂ r₃ r₄ r₅ r₇ : Bool) →
+          (r₁ && r₂ && r₃ && r₄ && r₅ && r₇)
+          ≡ eqb (cond (not r₁) 1 (cond (not r₂) 2 (cond (not r₃) 3 (cond (not r₄) 4 (cond (not r₅) 5 (cond (not r₇) 7 0)))))) 0
+      go false r₂ r₃ r₄ r₅ r₇ = refl
+      go true false r₃ r₄ r₅ r₇ = refl
+      go true true false r₄ r₅ r₇ = refl
+      go true true true false r₅ r₇ = refl
+      go true true true true false r₇ = refl
+      go true true true true true false = refl
+      go true true true true true true = refl
+
+  -- in an image of sound blocks every map agrees
+  pub sound-maps : sound geo image ≡ true → MapsAgree geo image
+  unfolding sound soundBlock
+  sound-maps s = record { agrees = λ b l. second (R1 geo image b) (R2 geo image b) (R3 geo image b) (R4 geo image b) (R5 geo image b) (R7 geo image b) (all-at (geo .blocks) _ s b l) }
+    where
+      second : (r₁ r₂ r₃ r₄ r₅ r₇ : Bool) → (r₁ && r₂ && r₃ && r₄ && r₅ && r₇) ≡ true → r₂ ≡ true
+      second true true r₃ r₄ r₅ r₇ e = refl
+      second true false r₃ r₄ r₅ r₇ e = e
+      second false r₂ r₃ r₄ r₅ r₇ e = absurd (false≢true e)
+
+  -- one block that is not sound
+  pub unsound-fails : (b : ℕ) → b < geo .blocks → soundBlock geo image b ≡ false → wellFormed geo image ≡ false
+  unfolding wellFormed sound
+  unsound-fails b l e = ap (_&& R6 geo image) (not-all (geo .blocks) (soundBlock geo image) l e)
+
+  -- where all blocks are sound R6 decides, by the number of blank blocks
+  pub sound-decides : sound geo image ≡ true → wellFormed geo image ≡ ltb 0 (countBelow (geo .blocks) (blank geo image))
+  unfolding wellFormed R6
+  sound-decides s =
+      ap (_&& R6 geo image) s ∙ any-count (geo .blocks) (blank geo image) ∙ go (countBelow (geo .blocks) (blank geo image))
+    where
+      go : (n : ℕ) → not (eqb n 0) ≡ ltb 0 n
+      go zero = refl
+      go (suc n) = ap not (ne-eqb (suc n) 0 (λ e. omega arith)) ∙ sym (lt-ltb 0 (suc n) (omega arith))

@@ -1,0 +1,23 @@
+-- Which numbers were live in the slots passed, as a bit each: how R5 is checked in one pass. Internal to the check.
+use mathlib.Core.Bool.{Bool, not}
+use mathlib.Core.List.{List}
+use mathlib.Core.Path.{_≡_}
+use Prim.Native.Nat.{ℕ, _/_, _%_, _<_}
+use lib.ListN.{length, getD}
+use Rattle.bits.specs.Word.{isSet}
+use Rattle.geometry.specs.declared.Geometry.{Geometry}
+use Rattle.image.specs.Words.{Image}
+use Rattle.image.specs.WellFormed.{liveBefore}
+
+-- the words that hold a bit for each number there can be
+abbrev pub markWords : ℕ
+markWords = 124
+
+-- the bit of n is clear once n was live
+unfoldable pub seen : List ℕ → ℕ → Bool
+seen marks n = not (isSet (getD marks (n / 32) 0) (n % 32))
+
+-- the marks after all slots before slot i of block b
+pub record Marks (geo : Geometry) (image : Image) (b i : ℕ) (marks : List ℕ) : Type 0 where
+  pub long : length marks ≡ markWords
+  pub says : (n : ℕ) → n < geo .logical → seen marks n ≡ liveBefore geo image b i n

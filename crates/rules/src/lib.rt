@@ -1,0 +1,244 @@
+// Whether an image is well formed: R1 to R7, each block in turn, and every word a bounded number of times.
+ghost use mathlib.Core.Bool.{true, not};
+ghost use mathlib.Core.Path.{_≡_};
+ghost use Prim.Native.Nat.{ℕ, suc, _<_};
+ghost use lib.ListN.{length};
+ghost use Rattle.ranges.specs.Range.{allBelow};
+ghost use Rattle.geometry.specs.Geometry.{d, sectorWords};
+ghost use Rattle.image.specs.Words.{Shaped};
+ghost use Rattle.image.specs.Slots.{slot, isLiveWith};
+ghost use Rattle.image.specs.WellFormed.{allOnes, mapAgrees, restSet, outOfBounds, R1, R2, R3, R4, R5, R7, brokenRule, wellFormed};
+ghost use Rattle.rules.specs.Marks.{Marks};
+use blocks::count_blank;
+use blocks::erase_count;
+use blocks::free_slots;
+use geometry::Geometry;
+use image::Slot;
+use image::slots::slot_of;
+
+// Whether every word of a sector is all ones.
+pub fn all_ones(sector: &[u32]) -> bool
+    requires { ⌜ length (now sector) ≡ sectorWords ⌝ }
+    ensures { λ r. ⌜ r ≡ allOnes (now (sector .entry)) ⌝ }
+{
+    let mut all = 0xFFFF_FFFFu32;
+    for j in 0..128 {
+        all = all & sector[j];
+    }
+    all == 0xFFFF_FFFF
+}
+
+// R1: the erase count is at most the ceiling.
+fn rule1(image: &[u32], geo: Geometry, b: usize) -> bool
+    requires { ⌜ Shaped geo (now image) ⌝ }
+    requires { ⌜ b < geo .blocks ⌝ }
+    ensures { λ r. ⌜ r ≡ R1 geo (now (image .entry)) b ⌝ }
+{
+    erase_count(image, geo, b) <= 1_000_000
+}
+
+// R2, of the slots: a map bit is set exactly when the slot's entry is free.
+fn map_agrees(image: &[u32], geo: Geometry, b: usize) -> bool
+    requires { ⌜ Shaped geo (now image) ⌝ }
+    requires { ⌜ b < geo .blocks ⌝ }
+    ensures { λ r. ⌜ r ≡ mapAgrees geo (now (image .entry)) b ⌝ }
+{
+    let d = geo.d();
+    let map = geo.map_start(b);
+    let entries = geo.entries_start(b);
+    for i in 0..d {
+        let set = bits::is_set(image[map + i / 32], (i % 32) as u32);
+        let free = image[entries + i] == 0xFFFF_FFFF;
+        if set != free {
+            return false;
+        }
+    }
+    true
+}
+
+// R2, of the rest: map bits from d on are ones.
+fn rest_set(image: &[u32], geo: Geometry, b: usize) -> bool
+    requires { ⌜ Shaped geo (now image) ⌝ }
+    requires { ⌜ b < geo .blocks ⌝ }
+    ensures { λ r. ⌜ r ≡ restSet geo (now (image .entry)) b ⌝ }
+{
+    let d = geo.d();
+    let rest = 32 * geo.k() - d;
+    let map = geo.map_start(b);
+    for j in 0..rest {
+        let i = d + j;
+        if !bits::is_set(image[map + i / 32], (i % 32) as u32) {
+            return false;
+        }
+    }
+    true
+}
+
+fn rule2(image: &[u32], geo: Geometry, b: usize) -> bool
+    requires { ⌜ Shaped geo (now image) ⌝ }
+    requires { ⌜ b < geo .blocks ⌝ }
+    ensures { λ r. ⌜ r ≡ R2 geo (now (image .entry)) b ⌝ }
+{
+    if !map_agrees(image, geo, b) {
+        return false;
+    }
+    rest_set(image, geo, b)
+}
+
+// R3: all content words of a free slot are ones.
+fn rule3(image: &[u32], geo: Geometry, b: usize) -> bool
+    requires { ⌜ Shaped geo (now image) ⌝ }
+    requires { ⌜ b < geo .blocks ⌝ }
+    ensures { λ r. ⌜ r ≡ R3 geo (now (image .entry)) b ⌝ }
+{
+    let d = geo.d();
+    let entries = geo.entries_start(b);
+    for i in 0..d {
+        if image[entries + i] == 0xFFFF_FFFF {
+            let from = geo.contents_start(b, i);
+            let to = from + 128;
+            if !all_ones(&image[from..to]) {
+                return false;
+            }
+        }
+    }
+    true
+}
+
+// R4: no entry is a fault.
+fn rule4(image: &[u32], geo: Geometry, b: usize) -> bool
+    requires { ⌜ Shaped geo (now image) ⌝ }
+    requires { ⌜ b < geo .blocks ⌝ }
+    ensures { λ r. ⌜ r ≡ R4 geo (now (image .entry)) b ⌝ }
+{
+    let d = geo.d();
+    let base = geo.entries_start(b);
+    for i in 0..d {
+        match slot_of(geo.logical, image[base + i]) {
+            Slot::Faulty => {
+                return false;
+            }
+            Slot::Free => {}
+            Slot::Live(_) => {}
+            Slot::Dead => {}
+        }
+    }
+    true
+}
+
+// R5: no number of block b is live in an earlier slot. The marks know the earlier blocks' numbers and learn this one's.
+fn rule5(image: &[u32], geo: Geometry, b: usize, marks: &mut [u32]) -> bool
+    requires { ⌜ Shaped geo (now image) ⌝ }
+    requires { ⌜ b < geo .blocks ⌝ }
+    requires { ⌜ Marks geo (now image) b 0 (now marks) ⌝ }
+    ensures { λ r. ⌜ r ≡ R5 geo (now (image .entry)) b ⌝ }
+    ensures { λ r. ⌜ (r ≡ true → Marks geo (now (image .entry)) (suc b) 0 (now (marks .exit))) ⌝ }
+{
+    let d = geo.d();
+    let entries = geo.entries_start(b);
+    for i in 0..d {
+        match slot_of(geo.logical, image[entries + i]) {
+            Slot::Live(n) => {
+                let at = (n / 32) as usize;
+                if !bits::is_set(marks[at], n % 32) {
+                    return false;
+                }
+                marks[at] = bits::clear_bit(marks[at], n % 32);
+            }
+            Slot::Free => {}
+            Slot::Dead => {}
+            Slot::Faulty => {}
+        }
+    }
+    true
+}
+
+// R7 of a full block: word 1 is at most every live number, and word 2 at least.
+fn live_in_bounds(image: &[u32], geo: Geometry, b: usize) -> bool
+    requires { ⌜ Shaped geo (now image) ⌝ }
+    requires { ⌜ b < geo .blocks ⌝ }
+    ensures { λ r. ⌜ r ≡ allBelow (d geo) (λ i. not (isLiveWith (outOfBounds geo (now (image .entry)) b) (slot geo (now (image .entry)) b i))) ⌝ }
+{
+    let d = geo.d();
+    let start = geo.start(b);
+    let least = image[start + 1];
+    let greatest = image[start + 2];
+    let entries = geo.entries_start(b);
+    for i in 0..d {
+        match slot_of(geo.logical, image[entries + i]) {
+            Slot::Live(n) => {
+                if n < least {
+                    return false;
+                }
+                if greatest < n {
+                    return false;
+                }
+            }
+            Slot::Free => {}
+            Slot::Dead => {}
+            Slot::Faulty => {}
+        }
+    }
+    true
+}
+
+// R7, of a block whose map agrees with its entries.
+fn rule7(image: &[u32], geo: Geometry, b: usize) -> bool
+    requires { ⌜ Shaped geo (now image) ⌝ }
+    requires { ⌜ b < geo .blocks ⌝ }
+    requires { ⌜ R2 geo (now image) b ≡ true ⌝ }
+    ensures { λ r. ⌜ r ≡ R7 geo (now (image .entry)) b ⌝ }
+{
+    let start = geo.start(b);
+    if free_slots(image, geo, b) == 0 {
+        return live_in_bounds(image, geo, b);
+    }
+    if image[start + 1] != 0xFFFF_FFFF {
+        return false;
+    }
+    image[start + 2] == 0xFFFF_FFFF
+}
+
+// The number of the first rule that block b breaks, of R1 to R5 and R7 in that order; 0 where it keeps them all.
+pub fn broken_rule(image: &[u32], geo: Geometry, b: usize, marks: &mut [u32]) -> u32
+    requires { ⌜ Shaped geo (now image) ⌝ }
+    requires { ⌜ b < geo .blocks ⌝ }
+    requires { ⌜ Marks geo (now image) b 0 (now marks) ⌝ }
+    ensures { λ r. ⌜ r ≡ brokenRule geo (now (image .entry)) b ⌝ }
+    ensures { λ r. ⌜ (r ≡ 0 → Marks geo (now (image .entry)) (suc b) 0 (now (marks .exit))) ⌝ }
+{
+    if !rule1(image, geo, b) {
+        return 1;
+    }
+    if !rule2(image, geo, b) {
+        return 2;
+    }
+    if !rule3(image, geo, b) {
+        return 3;
+    }
+    if !rule4(image, geo, b) {
+        return 4;
+    }
+    if !rule5(image, geo, b, marks) {
+        return 5;
+    }
+    if !rule7(image, geo, b) {
+        return 7;
+    }
+    0
+}
+
+// Whether the image is well formed: each block by its rules in turn, then R6.
+pub fn well_formed(image: &[u32], geo: Geometry) -> bool
+    requires { ⌜ Shaped geo (now image) ⌝ }
+    ensures { λ r. ⌜ r ≡ wellFormed geo (now (image .entry)) ⌝ }
+{
+    let blocks = geo.blocks as usize;
+    let mut marks = [0xFFFF_FFFFu32; 124];
+    for b in 0..blocks {
+        if broken_rule(image, geo, b, &mut marks) != 0 {
+            return false;
+        }
+    }
+    0 < count_blank(image, geo)
+}
