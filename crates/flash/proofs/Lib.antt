@@ -9,3 +9,4 @@ pub mod Reclaimed
 pub mod Chosen
 pub mod Written
 pub mod Released
+pub mod Planned

@@ -12,6 +12,9 @@ use Rattle.image.specs.declared.Slot.the-variants.{Free, Live, Dead, Faulty}
 use Rattle.image.specs.Words.{Image, eraseCount, contents}
 use Rattle.image.specs.Slots.{slot}
 use Rattle.image.specs.Blocks.{blank, isOpen, lowestFree, lowestOpen, leastWornBlank, victim}
+use Rattle.image.specs.WellFormed.{ceiling}
+use Rattle.flash.specs.declared.Plan.{Plan}
+use Rattle.flash.specs.declared.Plan.the-variants.{Fill, Reclaim, Worn}
 use Rattle.flash.specs.Steps.{Step, Program, Erase, run}
 use Rattle.flash.specs.Placing.{placing}
 
@@ -77,3 +80,10 @@ module _ (geo : Geometry) where
   unfoldable pub writing : Image → ℕ → List ℕ → List Step
   writing image n ws =
       cond (mustReclaim image) (reclaimingFirst image (victim geo image) n ws) (filling image n ws)
+
+  -- how a write goes about it: by rule 1 or 2, or by rule 3 unless the victim's count is at the ceiling
+  unfoldable pub planned : Image → Plan
+  planned image =
+      cond (mustReclaim image)
+      (cond (eqb (eraseCount geo image (victim geo image)) ceiling) Worn (Reclaim (victim geo image)))
+      Fill

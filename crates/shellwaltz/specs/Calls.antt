@@ -49,19 +49,23 @@ module _ (geo : Geometry) (image : Image) where
   abbrev pub formatOutcome : Outcome
   formatOutcome = record { answer = formatAnswer geo image; words = 0; erasures = 0 }
 
-  -- "Report gives mapped, free and dead slots and the sum of erase counts." On refusal "a report's four numbers, are 0".
-  abbrev pub total : (ℕ → ℕ) → ℕ
-  total f = ifAccepted (reportAnswer geo image) (sumBelow (geo .blocks) f) 0
-
-  abbrev pub reported : Totals
-  reported =
+  -- "Report gives mapped, free and dead slots and the sum of erase counts."
+  abbrev pub totalsOf : Totals
+  totalsOf =
       record {
-        answer = reportAnswer geo image;
-        mapped = total (liveSlots geo image);
-        free = total (freeSlots geo image);
-        dead = total (deadSlots geo image);
-        «erase_sum» = total (eraseCount geo image);
+        answer = Accepted;
+        mapped = sumBelow (geo .blocks) (liveSlots geo image);
+        free = sumBelow (geo .blocks) (freeSlots geo image);
+        dead = sumBelow (geo .blocks) (deadSlots geo image);
+        «erase_sum» = sumBelow (geo .blocks) (eraseCount geo image);
       }
+
+  -- On refusal "a report's four numbers, are 0".
+  abbrev pub noTotals : Answer → Totals
+  noTotals refusal = record { answer = refusal; mapped = 0; free = 0; dead = 0; «erase_sum» = 0 }
+
+  unfoldable pub reported : Totals
+  reported = ifAccepted (reportAnswer geo image) totalsOf (noTotals (reportAnswer geo image))
 
   -- "Read copies 128 words to the buffer.": the buffer that a read leaves
   abbrev pub copiedFrom : Found → List ℕ → List ℕ

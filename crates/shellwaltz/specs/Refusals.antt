@@ -65,20 +65,39 @@ module _ (geo : Geometry) (image : Image) where
   abbrev pub row6 : Row
   row6 = record { refusal = WornOut; applies = mustReclaim geo image && eqb (eraseCount geo image (victim geo image)) ceiling }
 
+  -- each call's rows, in the table's order, and its answer
+  abbrev pub formatRows : List Row
+  formatRows = row1 ∷ []
+
+  abbrev pub checkRows : List Row
+  checkRows = row1 ∷ row4 ∷ []
+
+  abbrev pub reportRows : List Row
+  reportRows = row1 ∷ row4 ∷ []
+
+  abbrev pub readRows : ℕ → List ℕ → List Row
+  readRows n buffer = row1 ∷ row2 buffer ∷ row3 n ∷ row4 ∷ row5 n ∷ []
+
+  abbrev pub writeRows : ℕ → List ℕ → List Row
+  writeRows n buffer = row1 ∷ row2 buffer ∷ row3 n ∷ row4 ∷ row6 ∷ []
+
+  abbrev pub releaseRows : ℕ → List Row
+  releaseRows n = row1 ∷ row3 n ∷ row4 ∷ row5 n ∷ []
+
   unfoldable pub formatAnswer : Answer
-  formatAnswer = firstThatApplies (row1 ∷ [])
+  formatAnswer = firstThatApplies formatRows
 
   unfoldable pub checkAnswer : Answer
-  checkAnswer = firstThatApplies (row1 ∷ row4 ∷ [])
+  checkAnswer = firstThatApplies checkRows
 
   unfoldable pub reportAnswer : Answer
-  reportAnswer = firstThatApplies (row1 ∷ row4 ∷ [])
+  reportAnswer = firstThatApplies reportRows
 
   unfoldable pub readAnswer : ℕ → List ℕ → Answer
-  readAnswer n buffer = firstThatApplies (row1 ∷ row2 buffer ∷ row3 n ∷ row4 ∷ row5 n ∷ [])
+  readAnswer n buffer = firstThatApplies (readRows n buffer)
 
   unfoldable pub writeAnswer : ℕ → List ℕ → Answer
-  writeAnswer n buffer = firstThatApplies (row1 ∷ row2 buffer ∷ row3 n ∷ row4 ∷ row6 ∷ [])
+  writeAnswer n buffer = firstThatApplies (writeRows n buffer)
 
   unfoldable pub releaseAnswer : ℕ → Answer
-  releaseAnswer n = firstThatApplies (row1 ∷ row3 n ∷ row4 ∷ row5 n ∷ [])
+  releaseAnswer n = firstThatApplies (releaseRows n)

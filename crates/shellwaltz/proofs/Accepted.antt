@@ -1,0 +1,132 @@
+-- What an accepted call says of what was handed in, and so what a write and a release leave. Assumes nothing.
+use mathlib.Core.Path.{_≡_, refl, sym, ap, _∙_}
+use mathlib.Core.Logic.{_≢_}
+use mathlib.Core.Bool.{Bool, true, false, not, _&&_, false≢true, true≢false}
+use mathlib.Core.List.{List, []}
+use Prim.Native.Nat.{ℕ, _<_}
+use lib.Dec.{leb, eqb}
+use lib.ListN.{length}
+use borrow.Author.Tests.{not-false, eqb-true, eq-eqb, leb-false}
+use Rattle.ranges.proofs.Tests.{both-pass}
+use Rattle.geometry.specs.declared.Geometry.{Geometry}
+use Rattle.geometry.specs.Geometry.{imageLength, sectorWords, withinLimits}
+use Rattle.geometry.proofs.Laws.{limits-hold}
+use Rattle.image.specs.declared.Found.{Found}
+use Rattle.image.specs.declared.Found.the-variants.{At, Nothing}
+use Rattle.image.specs.Words.{Image, Shaped, Words32, eraseCount}
+use Rattle.image.specs.Slots.{find}
+use Rattle.image.specs.Blocks.{victim}
+use Rattle.image.specs.WellFormed.{ceiling, R6, sound, wellFormed}
+use Rattle.image.proofs.Facts.{Sound, sound-facts, facts-sound}
+use Rattle.flash.specs.Steps.{Step, run}
+use Rattle.flash.specs.Placing.{releasing}
+use Rattle.flash.specs.Writing.{mustReclaim, writing}
+use Rattle.flash.proofs.Filling.{Ready}
+use Rattle.flash.proofs.Written.{Wrote, Sector, writing-wrote}
+use Rattle.flash.proofs.Released.{Released, releasing-released}
+use Rattle.shellwaltz.specs.declared.Answer.{Answer}
+use Rattle.shellwaltz.specs.declared.Answer.the-variants.{Accepted}
+use Rattle.shellwaltz.specs.Refusals.{formatRows, checkRows, readRows, writeRows, releaseRows, formatAnswer, checkAnswer, readAnswer, writeAnswer, releaseAnswer, isNothing}
+use Rattle.shellwaltz.specs.Calls.{writeSteps, releaseSteps}
+use Rattle.shellwaltz.proofs.Rows.{NoneApplies, none-applies, if-accepted}
+
+module _ (geo : Geometry) (image : Image) where
+  -- row 1 does not apply
+  pub shaped-by : not (withinLimits geo && eqb (length image) (imageLength geo)) ≡ false → Shaped geo image
+  shaped-by t =
+      let both = both-pass (withinLimits geo) (eqb (length image) (imageLength geo)) (not-false _ t) in
+      record { limits = limits-hold geo (both .0); long = eqb-true (length image) (imageLength geo) (both .1) }
+
+  -- row 4 does not apply
+  pub formed-by : not (wellFormed geo image) ≡ false → wellFormed geo image ≡ true
+  formed-by t = not-false (wellFormed geo image) t
+
+  pub formed-ready : Shaped geo image → Words32 image → wellFormed geo image ≡ true → Ready geo image × (R6 geo image ≡ true)
+  unfolding wellFormed
+  formed-ready shaped words t =
+      let both = both-pass (sound geo image) (R6 geo image) t in
+      (record { shaped = shaped; words = words; sound = sound-facts geo image (both .0) }, both .1)
+
+  pub ready-formed : Ready geo image → R6 geo image ≡ true → wellFormed geo image ≡ true
+  unfolding wellFormed
+  ready-formed r t = rw (facts-sound geo image (r .sound), t)
+
+  -- a number that is mapped is found
+  found-by : (n : ℕ) → isNothing (find geo image n) ≡ false → (b i : ℕ) × (find geo image n ≡ At b i)
+  found-by n t = go (find geo image n) refl
+    where
+      go : (f : Found) → find geo image n ≡ f → (b i : ℕ) × (find geo image n ≡ At b i)
+      go (At b i) e = (b, i, e)
+      go Nothing e = absurd (true≢false (rw e at t))
+
+  -- ---- an accepted check
+
+  pub check-accepted : checkAnswer geo image ≡ Accepted → Shaped geo image × (wellFormed geo image ≡ true)
+  unfolding checkAnswer
+  check-accepted e =
+      let rows : NoneApplies (checkRows geo image) = none-applies 0 (checkRows geo image) e refl in
+      (shaped-by (rows .0), formed-by (rows .1 .0))
+
+  pub format-accepted : formatAnswer geo image ≡ Accepted → Shaped geo image
+  unfolding formatAnswer
+  format-accepted e =
+      let rows : NoneApplies (formatRows geo image) = none-applies 0 (formatRows geo image) e refl in
+      shaped-by (rows .0)
+
+  -- ---- an accepted read
+
+  pub read-accepted : (n : ℕ) (buffer : List ℕ) → readAnswer geo image n buffer ≡ Accepted → (b i : ℕ) × (find geo image n ≡ At b i)
+  unfolding readAnswer
+  read-accepted n buffer e =
+      let rows : NoneApplies (readRows geo image n buffer) = none-applies 0 (readRows geo image n buffer) e refl in
+      found-by n (rows .1 .1 .1 .1 .0)
+
+  -- ---- an accepted write
+
+  module _ (n : ℕ) (buffer : List ℕ) (words : Words32 image) (handed : Words32 buffer) (accepted : writeAnswer geo image n buffer ≡ Accepted) where
+    write-rows : NoneApplies (writeRows geo image n buffer)
+    unfolding writeAnswer
+    write-rows = none-applies 0 (writeRows geo image n buffer) accepted refl
+
+    pub write-steps : writeSteps geo image n buffer ≡ writing geo image n buffer
+    unfolding writeSteps
+    write-steps = if-accepted (writing geo image n buffer) [] accepted
+
+    pub write-wrote : Wrote geo image n buffer (writing geo image n buffer)
+    write-wrote =
+        let start = formed-ready (shaped-by (write-rows .0)) words (formed-by (write-rows .1 .1 .1 .0)) in
+        writing-wrote geo image n buffer (start .0) (start .1)
+        (record {
+          number = leb-false (geo .logical) n (write-rows .1 .1 .0);
+          long = eqb-true (length buffer) sectorWords (not-false _ (write-rows .1 .0));
+          words = handed;
+        })
+        (λ must worn. true≢false (sym (at-ceiling must worn) ∙ write-rows .1 .1 .1 .1 .0))
+      where
+        at-ceiling :
+            mustReclaim geo image ≡ true →
+            eraseCount geo image (victim geo image) ≡ ceiling →
+            (mustReclaim geo image && eqb (eraseCount geo image (victim geo image)) ceiling) ≡ true
+        at-ceiling must worn = rw (must, eq-eqb (eraseCount geo image (victim geo image)) ceiling worn)
+
+  -- ---- an accepted release
+
+  module _ (n : ℕ) (words : Words32 image) (accepted : releaseAnswer geo image n ≡ Accepted) where
+    release-rows : NoneApplies (releaseRows geo image n)
+    unfolding releaseAnswer
+    release-rows = none-applies 0 (releaseRows geo image n) accepted refl
+
+    pub release-steps : releaseSteps geo image n ≡ releasing geo image n
+    unfolding releaseSteps
+    release-steps = if-accepted (releasing geo image n) [] accepted
+
+    release-start : Ready geo image × (R6 geo image ≡ true)
+    release-start = formed-ready (shaped-by (release-rows .0)) words (formed-by (release-rows .1 .1 .0))
+
+    pub release-blank : R6 geo image ≡ true
+    release-blank = release-start .1
+
+    pub release-released : Released geo image n (releasing geo image n)
+    release-released =
+        let found = found-by n (release-rows .1 .1 .1 .0) in
+        releasing-released geo image n (found .0) (found .1) (release-start .0) (found .2)

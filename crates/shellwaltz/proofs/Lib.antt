@@ -1,0 +1,5 @@
+pub mod Fresh
+pub mod Rows
+pub mod Accepted
+pub mod Running
+pub mod Demands

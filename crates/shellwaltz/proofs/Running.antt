@@ -1,0 +1,172 @@
+-- A run: what each call pays in free slots, and so how many erasures a run can make. Assumes nothing.
+use mathlib.Core.Path.{_≡_, refl, sym, ap, _∙_}
+use mathlib.Core.Logic.{_≢_}
+use mathlib.Core.Bool.{Bool, true, false}
+use mathlib.Core.List.{List, [], _∷_}
+use Prim.Native.Nat.{ℕ, zero, suc, _+_, _-_, _*_, _≤_}
+use native.Mathlib.Omega.{arith}
+use Rattle.geometry.specs.declared.Geometry.{Geometry}
+use Rattle.geometry.specs.Geometry.{d, g}
+use Rattle.image.specs.Words.{Image, Words32}
+use Rattle.image.specs.WellFormed.{R6}
+use Rattle.flash.specs.Steps.{Step, run, wordsIn, erasuresIn}
+use Rattle.flash.specs.Placing.{releasing}
+use Rattle.flash.specs.Writing.{writing}
+use Rattle.flash.proofs.Filling.{Ready}
+use Rattle.flash.proofs.Stores.{run-none}
+use Rattle.flash.proofs.Written.{Wrote, freeIn, wornIn}
+use Rattle.flash.proofs.Released.{Released}
+use Rattle.shellwaltz.specs.declared.Answer.{Answer}
+use Rattle.shellwaltz.specs.declared.Answer.the-variants.{Accepted, BadGeometry, BadBuffer, BadNumber, Malformed, Unmapped, WornOut}
+use Rattle.shellwaltz.specs.Refusals.{writeAnswer, releaseAnswer}
+use Rattle.shellwaltz.specs.Calls.{ifAccepted, writeSteps, releaseSteps, written, released}
+use Rattle.shellwaltz.specs.Runs.{Call, Check, Report, Read, Write, Release, State, called, ran, OfWords}
+use Rattle.shellwaltz.proofs.Rows.{if-accepted, if-refused}
+use Rattle.shellwaltz.proofs.Accepted.{write-steps, write-wrote, release-steps, release-released, release-blank}
+
+-- an image that is well formed, of the right shape and of 32-bit words
+pub record Good (geo : Geometry) (image : Image) : Type 0 where
+  pub ready : Ready geo image
+  pub spare : R6 geo image ≡ true
+
+-- What one call does to the free slots: F before it, F' after it, w accepted writes (0 or 1), e erasures. A write takes one slot, and
+-- an erasure is made only at F ≡ d, and gives back g.
+record Paid (g d F F' w e : ℕ) : Type 0 where
+  balance : F + g * e ≤ F' + w
+  one : w ≤ 1
+  erases : e ≤ w
+  low : e ≡ 1 → F ≡ d
+
+-- one call before a run of which the law holds: E erasures and W writes from F' on
+paid-before :
+    {g d F F' w e k : ℕ} (W E : ℕ) →
+    Paid g d F F' w e →
+    ((k : ℕ) → E ≡ suc k → F' + g * k + 1 ≤ W + d) →
+    e + E ≡ suc k →
+    F + g * k + 1 ≤ w + W + d
+paid-before {k = k} W zero p law h =
+    let none : k ≡ 0 = omega arith in
+    rw none (omega (arith, p .low (omega arith)))
+paid-before {e = e} {k = k} W (suc E) p law h =
+    let more : k ≡ e + E = omega arith in
+    rw more (omega (arith, law E refl))
+
+module _ (geo : Geometry) where
+  -- what a call leaves of a good state
+  record Step-of (s t : State) : Type 0 where
+    good : Good geo (t .image)
+    w : ℕ
+    e : ℕ
+    writes : t .writes ≡ s .writes + w
+    erasures : t .erasures ≡ s .erasures + e
+    worn : wornIn geo (t .image) ≡ wornIn geo (s .image) + e
+    paid : Paid (g geo) (d geo) (freeIn geo (s .image)) (freeIn geo (t .image)) w e
+
+  -- a call that leaves the image
+  idle : (s t : State) → Good geo (s .image) → t .image ≡ s .image → t .writes ≡ s .writes → t .erasures ≡ s .erasures → Step-of s t
+  idle s t good i w e =
+      record {
+        good = rw i good;
+        w = 0;
+        e = 0;
+        writes = omega arith;
+        erasures = omega arith;
+        worn = rw i (omega arith);
+        paid = rw i (record { balance = omega arith; one = omega arith; erases = omega arith; low = omega arith });
+      }
+
+  accepted? : (a : Answer) → Dec (a ≡ Accepted)
+  accepted? Accepted = yes refl
+  accepted? BadGeometry = no (λ e. let z : _≡_ {A = ℕ} 0 1 = cc in omega arith)
+  accepted? BadBuffer = no (λ e. let z : _≡_ {A = ℕ} 0 1 = cc in omega arith)
+  accepted? BadNumber = no (λ e. let z : _≡_ {A = ℕ} 0 1 = cc in omega arith)
+  accepted? Malformed = no (λ e. let z : _≡_ {A = ℕ} 0 1 = cc in omega arith)
+  accepted? Unmapped = no (λ e. let z : _≡_ {A = ℕ} 0 1 = cc in omega arith)
+  accepted? WornOut = no (λ e. let z : _≡_ {A = ℕ} 0 1 = cc in omega arith)
+
+  write-step : (s : State) (n : ℕ) (buffer : List ℕ) → Good geo (s .image) → Words32 buffer → Step-of s (called geo s (Write n buffer))
+  unfolding called writeSteps erasuresIn
+  write-step s n buffer good handed = go (accepted? (writeAnswer geo (s .image) n buffer))
+    where
+      go : Dec (writeAnswer geo (s .image) n buffer ≡ Accepted) → Step-of s (called geo s (Write n buffer))
+      go (yes a) =
+          let same = write-steps geo (s .image) n buffer (good .ready .words) handed a in
+          let r = write-wrote geo (s .image) n buffer (good .ready .words) handed a in
+          record {
+            good = rw same (record { ready = r .ready; spare = r .still-blank });
+            w = 1;
+            e = erasuresIn (writing geo (s .image) n buffer);
+            writes = ap (s .writes +_) (if-accepted 1 0 a);
+            erasures = ap (λ (ss : List Step). s .erasures + erasuresIn ss) same;
+            worn = rw same (r .worn);
+            paid = rw same (record { balance = r .paid; one = omega arith; erases = r .erases; low = r .low });
+          }
+      go (no a) =
+          let none = if-refused (writeAnswer geo (s .image) n buffer) (writing geo (s .image) n buffer) [] a in
+          idle s (called geo s (Write n buffer)) good
+          (ap (run geo (s .image)) none ∙ run-none geo (s .image))
+          (ap (s .writes +_) (if-refused (writeAnswer geo (s .image) n buffer) 1 0 a) ∙ omega arith)
+          (ap (λ (ss : List Step). s .erasures + erasuresIn ss) none ∙ omega arith)
+
+  release-step : (s : State) (n : ℕ) → Good geo (s .image) → Step-of s (called geo s (Release n))
+  unfolding called releaseSteps erasuresIn
+  release-step s n good = go (accepted? (releaseAnswer geo (s .image) n))
+    where
+      go : Dec (releaseAnswer geo (s .image) n ≡ Accepted) → Step-of s (called geo s (Release n))
+      go (yes a) =
+          let same = release-steps geo (s .image) n (good .ready .words) a in
+          let r = release-released geo (s .image) n (good .ready .words) a in
+          record {
+            good = rw same (record { ready = r .ready; spare = r .still-blank ∙ good .spare });
+            w = 0;
+            e = 0;
+            writes = omega arith;
+            erasures = ap (λ (ss : List Step). s .erasures + erasuresIn ss) same ∙ omega (arith, r .erasures);
+            worn = rw same (r .worn ∙ omega arith);
+            paid = rw same (record { balance = omega (arith, r .free); one = omega arith; erases = omega arith; low = omega arith });
+          }
+      go (no a) =
+          let none = if-refused (releaseAnswer geo (s .image) n) (releasing geo (s .image) n) [] a in
+          idle s (called geo s (Release n)) good
+          (ap (run geo (s .image)) none ∙ run-none geo (s .image))
+          refl
+          (ap (λ (ss : List Step). s .erasures + erasuresIn ss) none ∙ omega arith)
+
+  -- how a run from s to t stands: k + 1 erasures, the wear, and that nothing is taken back
+  pub record Ran (s t : State) : Type 0 where
+    pub bound : (k : ℕ) → t .erasures ≡ s .erasures + suc k → s .writes + freeIn geo (s .image) + g geo * k + 1 ≤ t .writes + d geo
+    pub worn : wornIn geo (t .image) + s .erasures ≡ wornIn geo (s .image) + t .erasures
+    pub more-erasures : s .erasures ≤ t .erasures
+    pub more-writes : s .writes ≤ t .writes
+
+  -- one call before a run
+  joined : (s m t : State) → Step-of s m → Ran m t → Ran s t
+  joined s m t st r =
+      record {
+        bound = λ k e.
+            let law = paid-before {k = k} (t .writes - m .writes) (t .erasures - m .erasures) (st .paid)
+            (λ j q. omega (arith, r .bound j (omega (arith, r .more-erasures)), r .more-writes))
+            (omega (arith, st .erasures, r .more-erasures)) in
+            omega (arith, law, st .writes, r .more-writes);
+        worn = omega (arith, st .worn, st .erasures, r .worn);
+        more-erasures = omega (arith, st .erasures, r .more-erasures);
+        more-writes = omega (arith, st .writes, r .more-writes);
+      }
+
+  pub runs :
+      (calls : List Call) (s : State) →
+      Good geo (s .image) →
+      OfWords calls →
+      Ran s (ran geo s calls)
+  unfolding ran called
+  runs [] s good handed =
+      record { bound = λ k e. absurd (omega arith); worn = refl; more-erasures = omega arith; more-writes = omega arith }
+  runs (Check ∷ cs) s good handed = runs cs s good handed
+  runs (Report ∷ cs) s good handed = runs cs s good handed
+  runs (Read n buffer ∷ cs) s good handed = runs cs s good handed
+  runs (Write n buffer ∷ cs) s good handed =
+      let st = write-step s n buffer good (handed .0) in
+      joined s (called geo s (Write n buffer)) (ran geo (called geo s (Write n buffer)) cs) st (runs cs (called geo s (Write n buffer)) (st .good) (handed .1))
+  runs (Release n ∷ cs) s good handed =
+      let st = release-step s n good in
+      joined s (called geo s (Release n)) (ran geo (called geo s (Release n)) cs) st (runs cs (called geo s (Release n)) (st .good) handed)
