@@ -10,3 +10,4 @@ pub mod Chosen
 pub mod Written
 pub mod Released
 pub mod Planned
+pub mod CodeLaws

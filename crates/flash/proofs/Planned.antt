@@ -1,21 +1,27 @@
 -- How a write goes about it, from what the code finds to the definitions. Assumes nothing.
 use mathlib.Core.Path.{_≡_, refl, sym, ap, _∙_}
-use mathlib.Core.Bool.{Bool, true, false, not, _&&_}
+use mathlib.Core.Bool.{Bool, true, false, not, cond, _&&_}
+use mathlib.Core.List.{List}
 use Prim.Native.Nat.{ℕ, _<_, _≤_}
 use native.Mathlib.Omega.{arith}
 use lib.Dec.{eqb}
-use borrow.Author.Tests.{eq-eqb, ne-eqb}
+use borrow.Author.Tests.{eq-eqb, ne-eqb, eqb-false, not-true, not-false}
 use Rattle.ranges.specs.Range.{countBelow, firstBelow}
-use Rattle.ranges.proofs.Tests.{any-at, any-of}
+use Rattle.ranges.proofs.Tests.{both-pass, any-at, any-of}
 use Rattle.ranges.proofs.Searches.{best-passes, best-some}
 use Rattle.geometry.specs.declared.Geometry.{Geometry}
+use Rattle.geometry.specs.Geometry.{d}
 use Rattle.image.specs.Words.{Image, eraseCount}
-use Rattle.image.specs.Blocks.{blank, isOpen, lowestOpen, victim}
-use Rattle.image.specs.WellFormed.{ceiling}
+use Rattle.image.specs.Slots.{slot, isFree}
+use Rattle.image.specs.Blocks.{blank, full, isOpen, lowestFree, lowestOpen, lessWorn, leastWornBlank, victim}
+use Rattle.image.specs.WellFormed.{ceiling, R6}
 use Rattle.image.proofs.Facts.{unless}
 use Rattle.flash.specs.declared.Plan.{Plan}
 use Rattle.flash.specs.declared.Plan.the-variants.{Fill, Reclaim, Worn}
-use Rattle.flash.specs.Writing.{anyOpen, mustReclaim, planned}
+use Rattle.flash.specs.Placing.{placing}
+use Rattle.flash.specs.Writing.{anyOpen, filling, mustReclaim, reclaimingFirst, writing, planned}
+use Rattle.flash.specs.Steps.{erasuresIn}
+use Rattle.flash.proofs.Counts.{placing-erasures}
 
 module _ (geo : Geometry) (image : Image) where
   -- a block is open where the lowest open block is one of the blocks
@@ -53,3 +59,93 @@ module _ (geo : Geometry) (image : Image) where
       mustReclaim geo image ≡ true → (eraseCount geo image (victim geo image) ≡ ceiling → ⊥) → planned geo image ≡ Reclaim (victim geo image)
   unfolding planned
   reclaim-planned t n = rw (t, ne-eqb _ _ n)
+
+  -- the slot that rule 1 takes: the lowest free one of the lowest open block is one of its slots
+  pub open-slot : lowestOpen geo image < geo .blocks → lowestFree geo image (lowestOpen geo image) < d geo
+  unfolding lowestOpen lowestFree full
+  open-slot l =
+      let is-open = best-passes (λ i r. false) (geo .blocks) (isOpen geo image) l in
+      let not-full = both-pass (not (blank geo image (lowestOpen geo image))) (not (full geo image (lowestOpen geo image))) is-open .1 in
+      let some-free = any-at (d geo) (λ j. isFree (slot geo image (lowestOpen geo image) j)) (not-false _ (not-true _ not-full)) in
+      best-some (λ i r. false) (d geo) (λ j. isFree (slot geo image (lowestOpen geo image) j)) (some-free .1) (some-free .2)
+
+  -- the block that rule 2 takes
+  pub blank-block : R6 geo image ≡ true → leastWornBlank geo image < geo .blocks
+  unfolding R6 leastWornBlank
+  blank-block t =
+      let found = any-at (geo .blocks) (blank geo image) t in
+      best-some (lessWorn geo image) (geo .blocks) (blank geo image) (found .1) (found .2)
+
+  -- the steps of rules 1 and 2, by what the code found
+  pub filling-open :
+      (b i : ℕ) →
+      b ≡ lowestOpen geo image →
+      i ≡ lowestFree geo image b →
+      b < geo .blocks →
+      (n : ℕ) (ws : List ℕ) →
+      filling geo image n ws ≡ placing geo image n ws b i
+  unfolding filling
+  filling-open b i p q l n ws =
+      let block : lowestOpen geo image < geo .blocks = omega arith in
+      rw (some-open block, ← p, ← q)
+
+  pub filling-blank :
+      (b : ℕ) → b ≡ leastWornBlank geo image → geo .blocks ≤ lowestOpen geo image → (n : ℕ) (ws : List ℕ) → filling geo image n ws ≡ placing geo image n ws b 0
+  unfolding filling
+  filling-blank b p l n ws = rw (none-open l, ← p)
+
+  -- what a plan to reclaim says
+  pub plan-says :
+      (v : ℕ) →
+      planned geo image ≡ Reclaim v →
+      (mustReclaim geo image ≡ true) × (v ≡ victim geo image) × (eraseCount geo image (victim geo image) ≡ ceiling → ⊥)
+  unfolding planned
+  plan-says v e = go (mustReclaim geo image) refl (eqb (eraseCount geo image (victim geo image)) ceiling) refl e
+    where
+      go :
+          (x : Bool) →
+          mustReclaim geo image ≡ x →
+          (y : Bool) →
+          eqb (eraseCount geo image (victim geo image)) ceiling ≡ y →
+          cond x (cond y Worn (Reclaim (victim geo image))) Fill ≡ Reclaim v →
+          (mustReclaim geo image ≡ true) × (v ≡ victim geo image) × (eraseCount geo image (victim geo image) ≡ ceiling → ⊥)
+      go true p true q r = let z : _≡_ {A = ℕ} 0 1 = cc in absurd (omega arith)
+      go true p false q r =
+          let same : v ≡ victim geo image = cc in
+          (p, same, eqb-false _ _ q)
+      go false p y q r = let z : _≡_ {A = ℕ} 0 1 = cc in absurd (omega arith)
+
+  pub fill-says : planned geo image ≡ Fill → mustReclaim geo image ≡ false
+  unfolding planned
+  fill-says e = go (mustReclaim geo image) refl (eqb (eraseCount geo image (victim geo image)) ceiling) e
+    where
+      go : (x : Bool) → mustReclaim geo image ≡ x → (y : Bool) → cond x (cond y Worn (Reclaim (victim geo image))) Fill ≡ Fill → mustReclaim geo image ≡ false
+      go true p true r = let z : _≡_ {A = ℕ} 0 1 = cc in absurd (omega arith)
+      go true p false r = let z : _≡_ {A = ℕ} 0 1 = cc in absurd (omega arith)
+      go false p y r = p
+
+  pub worn-says : planned geo image ≡ Worn → (mustReclaim geo image && eqb (eraseCount geo image (victim geo image)) ceiling) ≡ true
+  unfolding planned
+  worn-says e = go (mustReclaim geo image) (eqb (eraseCount geo image (victim geo image)) ceiling) e
+    where
+      go : (x y : Bool) → cond x (cond y Worn (Reclaim (victim geo image))) Fill ≡ Worn → (x && y) ≡ true
+      go true true r = refl
+      go true false r = let z : _≡_ {A = ℕ} 0 1 = cc in absurd (omega arith)
+      go false y r = let z : _≡_ {A = ℕ} 0 1 = cc in absurd (omega arith)
+
+  -- the steps of a write by its plan
+  pub writing-fills : mustReclaim geo image ≡ false → (n : ℕ) (ws : List ℕ) → writing geo image n ws ≡ filling geo image n ws
+  unfolding writing
+  writing-fills t n ws = rw t
+
+  pub writing-reclaims : mustReclaim geo image ≡ true → (n : ℕ) (ws : List ℕ) → writing geo image n ws ≡ reclaimingFirst geo image (victim geo image) n ws
+  unfolding writing
+  writing-reclaims t n ws = rw t
+
+  pub filling-erases-nothing : (n : ℕ) (ws : List ℕ) → erasuresIn (filling geo image n ws) ≡ 0
+  unfolding filling
+  filling-erases-nothing n ws = go (anyOpen geo image) refl
+    where
+      go : (x : Bool) → anyOpen geo image ≡ x → erasuresIn (filling geo image n ws) ≡ 0
+      go true t = rw t (placing-erasures geo image n ws (lowestOpen geo image) (lowestFree geo image (lowestOpen geo image)))
+      go false t = rw t (placing-erasures geo image n ws (leastWornBlank geo image) 0)

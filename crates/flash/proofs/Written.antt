@@ -221,6 +221,10 @@ module _
     pub reclaim-ready : Ready geo base
     reclaim-ready = r .ready
 
+    pub reclaim-blank : R6 geo base ≡ true
+    unfolding R6
+    reclaim-blank = any-of (geo .blocks) (blank geo base) (victim-is .block) victim-blank
+
     -- the free slots grow by the dead slots of the victim
     free-of-target : freeSlots geo base t + liveSlots geo image v ≡ d geo
     free-of-target =
@@ -268,6 +272,10 @@ module _
       once : erasuresIn (first ++ second) ≡ 1
       once = omega (arith, erasures-append first second, r .erasures, placed)
 
+      pub reclaiming-once : erasuresIn (reclaimingFirst geo image v n ws) ≡ 1
+      unfolding reclaimingFirst
+      reclaiming-once = once
+
       pub reclaiming-wrote : Wrote geo image n ws (reclaimingFirst geo image v n ws)
       unfolding reclaimingFirst
       reclaiming-wrote =
@@ -310,15 +318,18 @@ module _ (geo : Geometry) (image : Image) (start : Ready geo image) (must : must
       go true e false e' = (1, one-in, shut-full geo image (start .sound) 1 (says .0 1 one-in) e')
       go true e true e' = absurd (let z = count-one (geo .blocks) (blank geo image) (says .1) zero-in one-in e e' in omega arith)
 
+  pub victim-in : victim geo image < geo .blocks
+  unfolding victim
+  victim-in = best-some (preferred geo image) (geo .blocks) (full geo image) (some-full .1) (some-full .2)
+
   pub victim-reclaimable : (eraseCount geo image (victim geo image) ≡ ceiling → ⊥) → Reclaimable geo image (victim geo image)
   unfolding victim
   victim-reclaimable below =
-      let inside = best-some (preferred geo image) (geo .blocks) (full geo image) (some-full .1) (some-full .2) in
       record {
-        block = inside;
-        filled = best-passes (preferred geo image) (geo .blocks) (full geo image) inside;
+        block = victim-in;
+        filled = best-passes (preferred geo image) (geo .blocks) (full geo image) victim-in;
         dead = victim-dead geo image (start .sound) rule-limits (says .0) (says .1) (start .words);
-        wearable = omega (arith, start .sound .worn (victim geo image) inside);
+        wearable = omega (arith, start .sound .worn (victim geo image) victim-in);
       }
 
 -- an accepted write

@@ -1,6 +1,6 @@
-// What changes an image: the two kinds of step, and placing, releasing and reclaiming as lists of them.
-// Each function leaves the image that running the defined list of steps leaves, and counts its steps.
-pub mod writing;
+// What changes an image: the two kinds of step. The definitions (specs/) have placing, releasing, reclaiming and writing as lists of
+// them, and the laws (proofs/) what each list leaves; the crates placing and writing carry them out.
+pub mod steps;
 
 // The least and the greatest number live in a block; L for both where none is.
 pub struct LiveBounds {

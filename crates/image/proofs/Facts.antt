@@ -20,7 +20,7 @@ use Rattle.image.specs.declared.Slot.the-variants.{Free, Live, Dead, Fau
 use Rattle.image.specs.Words.{Image, Words32, eraseCount, leastMapped, greatestMapped, mapBit, entry, contents}
 use Rattle.image.specs.Slots.{slot, isFree, isFreeEntry, isFaulty, isLiveWith, isLiveFor, liveIn}
 use Rattle.image.specs.Blocks.{full}
-use Rattle.image.specs.WellFormed.{ceiling, allOnes, mapAgrees, restSet, liveBefore, outOfBounds, boundsBlank, R1, R2, R3, R4, R5, R7, soundBlock, sound}
+use Rattle.image.specs.WellFormed.{ceiling, allOnes, mapAgrees, restSet, liveBefore, outOfBounds, boundsBlank, R1, R2, R3, R4, R5, R7, soundBlock, sound, MapsAgree}
 use Rattle.image.proofs.Entries.{live-entry}
 use Rattle.image.proofs.Reading.{map-says, map-rest, free-read}
 
@@ -261,3 +261,7 @@ module _ (geo : Geometry) (image : Image) where
         r5 = kept-5 s b l;
         r7 = kept-7 s b l (full geo image b) refl;
       })
+
+  -- what the code asks of every block's map
+  pub sound-maps : Sound geo image → MapsAgree geo image
+  sound-maps s = record { agrees = λ b l. kept-2 s b l }

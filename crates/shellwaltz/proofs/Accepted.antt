@@ -9,8 +9,7 @@ use lib.ListN.{length}
 use borrow.Author.Tests.{not-false, eqb-true, eq-eqb, leb-false}
 use Rattle.ranges.proofs.Tests.{both-pass}
 use Rattle.geometry.specs.declared.Geometry.{Geometry}
-use Rattle.geometry.specs.Geometry.{imageLength, sectorWords, withinLimits}
-use Rattle.geometry.proofs.Laws.{limits-hold}
+use Rattle.geometry.specs.Geometry.{sectorWords}
 use Rattle.image.specs.declared.Found.{Found}
 use Rattle.image.specs.declared.Found.the-variants.{At, Nothing}
 use Rattle.image.specs.Words.{Image, Shaped, Words32, eraseCount}
@@ -28,15 +27,10 @@ use Rattle.shellwaltz.specs.declared.Answer.{Answer}
 use Rattle.shellwaltz.specs.declared.Answer.the-variants.{Accepted}
 use Rattle.shellwaltz.specs.Refusals.{formatRows, checkRows, readRows, writeRows, releaseRows, formatAnswer, checkAnswer, readAnswer, writeAnswer, releaseAnswer, isNothing}
 use Rattle.shellwaltz.specs.Calls.{writeSteps, releaseSteps}
+use Rattle.shellwaltz.proofs.CallLaws.{shaped-left}
 use Rattle.shellwaltz.proofs.Rows.{NoneApplies, none-applies, if-accepted}
 
 module _ (geo : Geometry) (image : Image) where
-  -- row 1 does not apply
-  pub shaped-by : not (withinLimits geo && eqb (length image) (imageLength geo)) ≡ false → Shaped geo image
-  shaped-by t =
-      let both = both-pass (withinLimits geo) (eqb (length image) (imageLength geo)) (not-false _ t) in
-      record { limits = limits-hold geo (both .0); long = eqb-true (length image) (imageLength geo) (both .1) }
-
   -- row 4 does not apply
   pub formed-by : not (wellFormed geo image) ≡ false → wellFormed geo image ≡ true
   formed-by t = not-false (wellFormed geo image) t
@@ -65,13 +59,13 @@ module _ (geo : Geometry) (image : Image) where
   unfolding checkAnswer
   check-accepted e =
       let rows : NoneApplies (checkRows geo image) = none-applies 0 (checkRows geo image) e refl in
-      (shaped-by (rows .0), formed-by (rows .1 .0))
+      (shaped-left geo image (rows .0), formed-by (rows .1 .0))
 
   pub format-accepted : formatAnswer geo image ≡ Accepted → Shaped geo image
   unfolding formatAnswer
   format-accepted e =
       let rows : NoneApplies (formatRows geo image) = none-applies 0 (formatRows geo image) e refl in
-      shaped-by (rows .0)
+      shaped-left geo image (rows .0)
 
   -- ---- an accepted read
 
@@ -94,7 +88,7 @@ module _ (geo : Geometry) (image : Image) where
 
     pub write-wrote : Wrote geo image n buffer (writing geo image n buffer)
     write-wrote =
-        let start = formed-ready (shaped-by (write-rows .0)) words (formed-by (write-rows .1 .1 .1 .0)) in
+        let start = formed-ready (shaped-left geo image (write-rows .0)) words (formed-by (write-rows .1 .1 .1 .0)) in
         writing-wrote geo image n buffer (start .0) (start .1)
         (record {
           number = leb-false (geo .logical) n (write-rows .1 .1 .0);
@@ -121,7 +115,7 @@ module _ (geo : Geometry) (image : Image) where
     release-steps = if-accepted (releasing geo image n) [] accepted
 
     release-start : Ready geo image × (R6 geo image ≡ true)
-    release-start = formed-ready (shaped-by (release-rows .0)) words (formed-by (release-rows .1 .1 .0))
+    release-start = formed-ready (shaped-left geo image (release-rows .0)) words (formed-by (release-rows .1 .1 .0))
 
     pub release-blank : R6 geo image ≡ true
     release-blank = release-start .1

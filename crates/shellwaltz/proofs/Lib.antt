@@ -3,3 +3,5 @@ pub mod Rows
 pub mod Accepted
 pub mod Running
 pub mod Demands
+pub mod CallLaws
+pub mod Changing

@@ -1,0 +1,94 @@
+-- `flash::placing::close_block` meets its contract: where the tally has no free slot the block is full, and the two bounds are programmed.
+use mathlib.Core.List.{[], _∷_}
+use mathlib.Core.Path.{_≡_, refl, sym, ap, _∙_}
+use Prim.Native.Nat.{_+_, _<_}
+use native.Mathlib.Omega.{arith}
+use lib.Dec.{eqb}
+use lib.ListN.{length}
+use borrow.Author.Needs.{needs}
+use borrow.Author.Tests.{eq-eqb, ne-eqb}
+use Rattle.image.specs.declared.Tally.{Tally}
+use Rattle.image.specs.Blocks.{full}
+use Rattle.image.proofs.Reading.{block-room, full-count}
+use Rattle.flash.specs.declared.LiveBounds.{LiveBounds}
+use Rattle.flash.specs.Steps.{run, wordsIn}
+use Rattle.flash.specs.Placing.{closesBlock}
+use Rattle.flash.proofs.CodeLaws.{run-program, run-then}
+use Rattle.placing.proofs.close_block.Statement.{statement}
+use Rattle.placing.proofs.close_block.Tie as tie
+
+-- what the tally says of the block
+full-here : (c : tie.After-tally) →
+    let start = c .before .before .before .before in
+    full (start .args .geo) (start .args .image .now) (start .args .b) ≡ eqb (c .tally .result .free) 0
+full-here c = full-count _ _ _ ∙ sym (ap (λ (t : Tally). eqb (t .free) 0) (c .tally .ensures))
+
+-- words 1 and 2 lie in the image
+inside : (c : tie.After-start) →
+    let start = c .before .before in
+    c .start .result + 2 < length (start .args .image .now)
+inside c =
+    let start = c .before .before in
+    omega (arith, block-room _ _ (start .pre .0) (start .args .b) (start .pre .1))
+
+start-requires : tie.Need-start-requires
+start-requires c κs = search needs
+
+tally-requires : tie.Need-tally-requires
+tally-requires c κs = search needs
+
+same-length : tie.Need-same-length
+same-length c = search needs
+
+returns : tie.Need-returns
+unfolding closesBlock run wordsIn
+returns c = rw (full-here (c .before .before) ∙ ne-eqb _ _ (c .if1 .taken)) (refl, refl)
+
+live-bounds-requires : tie.Need-live-bounds-requires
+live-bounds-requires c κs = search needs
+
+add-program : tie.Need-add-program
+add-program c = search needs
+
+program-requires : tie.Need-program-requires
+program-requires c κs = omega (arith, inside (c .before .before .before .before .before .before .before))
+
+add-program-2 : tie.Need-add-program-2
+add-program-2 c = search needs
+
+program-requires-2 : tie.Need-program-requires-2
+program-requires-2 c κs =
+    let first = c .before .before .before in
+    omega (arith, inside (first .before .before .before .before .before .before .before .before), first .program .kept .0)
+
+same-length-2 : tie.Need-same-length-2
+same-length-2 c = search needs
+
+returns-2 : tie.Need-returns-2
+unfolding closesBlock wordsIn
+returns-2 c =
+    let first = c .before .before .before .before .before .before in
+    let bounds = first .before .before in
+    let tallied = bounds .before .before .before .before in
+    rw (full-here tallied ∙ eq-eqb _ _ (bounds .before .before .if1 .left)) (
+      refl,
+      run-then _ _ (_ ∷ []) (_ ∷ [])
+          (run-program _ _ (first .program .ensures) (omega arith) (ap (λ (r : LiveBounds). r .least) (bounds .live-bounds .ensures)))
+          (run-program _ _ (c .before .before .program2 .ensures) (omega arith) (ap (λ (r : LiveBounds). r .greatest) (bounds .live-bounds .ensures))),
+    )
+
+pub close-block-spec : {M : Type 1} → statement M
+close-block-spec =
+    tie.close
+    (tie.spec
+    start-requires
+    tally-requires
+    same-length
+    returns
+    live-bounds-requires
+    add-program
+    program-requires
+    add-program-2
+    program-requires-2
+    same-length-2
+    returns-2)

@@ -1,0 +1,41 @@
+-- `flash::placing::release` meets its contract: the entry programmed is the one where n is found, with bit 31 cleared.
+use borrow.Author.Needs.{needs}
+use Rattle.flash.specs.Placing.{releasing}
+use Rattle.flash.proofs.CodeLaws.{found-inside}
+use Rattle.placing.proofs.release.Statement.{statement}
+use Rattle.placing.proofs.release.Tie as tie
+
+find-requires : tie.Need-find-requires
+find-requires c κs = search needs
+
+entry-at-requires : tie.Need-entry-at-requires
+entry-at-requires c κs = (c .before .before .before .before .pre .0, found-inside _ _ _ (c .before .find .ensures))
+
+clear-bit-requires : tie.Need-clear-bit-requires
+clear-bit-requires c κs = search needs
+
+program-entry-requires : tie.Need-program-entry-requires
+program-entry-requires c κs =
+    let found = c .before .before .before .before in
+    (found .before .before .before .pre .0, found-inside _ _ _ (found .find .ensures))
+
+same-length : tie.Need-same-length
+same-length c = search needs
+
+returns : tie.Need-returns
+unfolding releasing
+returns c =
+    let invalid = c .before .before .before .before in
+    rw (← invalid .before .before .before .find .ensures, ← invalid .before .entry-at .ensures, ← invalid .clear-bit .ensures)
+    (c .before .before .program-entry .ensures)
+
+pub release-spec : {M : Type 1} → statement M
+release-spec =
+    tie.close
+    (tie.spec
+    find-requires
+    entry-at-requires
+    clear-bit-requires
+    program-entry-requires
+    same-length
+    returns)

@@ -1,0 +1,157 @@
+// Placing a sector in a slot, (a) to (g), and releasing one.
+ghost use mathlib.Core.Path.{_≡_};
+ghost use Prim.Native.Nat.{ℕ, _<_};
+ghost use lib.ListN.{length};
+ghost use Rattle.geometry.specs.Geometry.{d, sectorWords};
+ghost use Rattle.image.specs.Words.{Shaped};
+ghost use Rattle.image.specs.Slots.{find};
+ghost use Rattle.flash.specs.Steps.{run, wordsIn};
+ghost use Rattle.flash.specs.Placing.{InImage, entryAt, programsEntry, takesSlot, storesContents, liveBounds, closesBlock, placing, releasing};
+use blocks::tally;
+use flash::LiveBounds;
+use flash::steps::program;
+use geometry::Geometry;
+use image::Found;
+use image::Slot;
+use image::slots::find;
+use image::slots::slot_of;
+
+// (a): the map word with the slot's bit cleared.
+fn take_slot(image: &mut [u32], geo: Geometry, b: usize, i: usize)
+    requires { ⌜ Shaped geo (now image) ⌝ }
+    requires { ⌜ b < geo .blocks ⌝ }
+    requires { ⌜ i < d geo ⌝ }
+    ensures { λ _. ⌜ now (image .exit) ≡ run geo (now (image .entry)) (takesSlot geo (now (image .entry)) b i) ⌝ }
+{
+    let at = geo.map_start(b) + i / 32;
+    let word = image[at];
+    program(image, at, bits::clear_bit(word, (i % 32) as u32));
+}
+
+// The entry at a place where a number was found; 0 where it was not.
+fn entry_at(image: &[u32], geo: Geometry, found: Found) -> u32
+    requires { ⌜ Shaped geo (now image) ⌝ }
+    requires { ⌜ InImage geo found ⌝ }
+    ensures { λ r. ⌜ r ≡ entryAt geo (now (image .entry)) found ⌝ }
+{
+    match found {
+        Found::At(b, i) => {
+            let at = geo.entries_start(b) + i;
+            image[at]
+        }
+        Found::Nothing => 0,
+    }
+}
+
+// (b), (f) and a release: that entry programmed, where there is one. Returns how many words were programmed.
+fn program_entry(image: &mut [u32], geo: Geometry, found: Found, asked: u32) -> u32
+    requires { ⌜ Shaped geo (now image) ⌝ }
+    requires { ⌜ InImage geo found ⌝ }
+    ensures { λ r. ⌜ r ≡ wordsIn (programsEntry geo found asked) ⌝ }
+    ensures { λ r. ⌜ now (image .exit) ≡ run geo (now (image .entry)) (programsEntry geo found asked) ⌝ }
+{
+    match found {
+        Found::At(b, i) => {
+            let at = geo.entries_start(b) + i;
+            program(image, at, asked);
+            1
+        }
+        Found::Nothing => 0,
+    }
+}
+
+// (c): the content words, ascending.
+fn store_contents(image: &mut [u32], geo: Geometry, b: usize, i: usize, words: &[u32])
+    requires { ⌜ Shaped geo (now image) ⌝ }
+    requires { ⌜ b < geo .blocks ⌝ }
+    requires { ⌜ i < d geo ⌝ }
+    requires { ⌜ length (now words) ≡ sectorWords ⌝ }
+    ensures { λ _. ⌜ now (image .exit) ≡ run geo (now (image .entry)) (storesContents geo b i (now (words .entry))) ⌝ }
+{
+    let at = geo.contents_start(b, i);
+    for j in 0..128 {
+        program(image, at + j, words[j]);
+    }
+}
+
+// The least and the greatest number live in block b.
+fn live_bounds(image: &[u32], geo: Geometry, b: usize) -> LiveBounds
+    requires { ⌜ Shaped geo (now image) ⌝ }
+    requires { ⌜ b < geo .blocks ⌝ }
+    ensures { λ r. ⌜ r ≡ liveBounds geo (now (image .entry)) b ⌝ }
+{
+    let d = geo.d();
+    let logical = geo.logical;
+    let entries = geo.entries_start(b);
+    let mut least = logical;
+    let mut greatest = logical;
+    for i in 0..d {
+        match slot_of(logical, image[entries + i]) {
+            Slot::Live(n) => {
+                if least == logical {
+                    greatest = n;
+                } else if greatest < n {
+                    greatest = n;
+                }
+                if n < least {
+                    least = n;
+                }
+            }
+            Slot::Free => {}
+            Slot::Dead => {}
+            Slot::Faulty => {}
+        }
+    }
+    LiveBounds { least, greatest }
+}
+
+// (g): words 1 and 2, if the block has no free slot left. Returns how many words were programmed.
+fn close_block(image: &mut [u32], geo: Geometry, b: usize) -> u32
+    requires { ⌜ Shaped geo (now image) ⌝ }
+    requires { ⌜ b < geo .blocks ⌝ }
+    ensures { λ r. ⌜ r ≡ wordsIn (closesBlock geo (now (image .entry)) b) ⌝ }
+    ensures { λ r. ⌜ now (image .exit) ≡ run geo (now (image .entry)) (closesBlock geo (now (image .entry)) b) ⌝ }
+{
+    let start = geo.start(b);
+    if tally(image, geo, b).free != 0 {
+        return 0;
+    }
+    let live = live_bounds(image, geo, b);
+    program(image, start + 1, live.least);
+    program(image, start + 2, live.greatest);
+    2
+}
+
+// Places n, with these contents, in slot i of block b: (a) to (g). Returns how many words were programmed.
+pub fn place(image: &mut [u32], geo: Geometry, n: u32, words: &[u32], b: usize, i: usize) -> u32
+    requires { ⌜ Shaped geo (now image) ⌝ }
+    requires { ⌜ n < geo .logical ⌝ }
+    requires { ⌜ length (now words) ≡ sectorWords ⌝ }
+    requires { ⌜ b < geo .blocks ⌝ }
+    requires { ⌜ i < d geo ⌝ }
+    ensures { λ r. ⌜ r ≡ wordsIn (placing geo (now (image .entry)) n (now (words .entry)) b i) ⌝ }
+    ensures { λ r. ⌜ now (image .exit) ≡ run geo (now (image .entry)) (placing geo (now (image .entry)) n (now (words .entry)) b i) ⌝ }
+{
+    let entry = geo.entries_start(b) + i;
+    let old = find(image, geo, n);
+    let outdated = bits::clear_bit(entry_at(image, geo, old), 30);
+    take_slot(image, geo, b, i);
+    let first = program_entry(image, geo, old, outdated);
+    store_contents(image, geo, b, i, words);
+    program(image, entry, 0xE000_0000 + n);
+    program(image, entry, 0xC000_0000 + n);
+    let last = program_entry(image, geo, old, bits::clear_bit(outdated, 31));
+    131 + first + last + close_block(image, geo, b)
+}
+
+// Releases n: its live entry with bit 31 cleared, if there is one. Returns how many words were programmed.
+pub fn release(image: &mut [u32], geo: Geometry, n: u32) -> u32
+    requires { ⌜ Shaped geo (now image) ⌝ }
+    requires { ⌜ n < geo .logical ⌝ }
+    ensures { λ r. ⌜ r ≡ wordsIn (releasing geo (now (image .entry)) n) ⌝ }
+    ensures { λ r. ⌜ now (image .exit) ≡ run geo (now (image .entry)) (releasing geo (now (image .entry)) n) ⌝ }
+{
+    let live = find(image, geo, n);
+    let invalid = bits::clear_bit(entry_at(image, geo, live), 31);
+    program_entry(image, geo, live, invalid)
+}

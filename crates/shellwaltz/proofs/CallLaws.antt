@@ -1,0 +1,34 @@
+-- The rows of the refusals: what the code's tests say of them, and what they leave where they do not apply. Assumes nothing.
+use mathlib.Core.Path.{_≡_, sym, ap, _∙_}
+use mathlib.Core.Bool.{Bool, false, not}
+use mathlib.Core.List.{List, _∷_}
+use Prim.Native.Nat.{ℕ, _<_}
+use lib.Dec.{eqb}
+use lib.ListN.{length}
+use borrow.Author.Tests.{eq-eqb, eqb-true, lt-leb, not-false}
+use Rattle.ranges.proofs.Tests.{both-pass}
+use Rattle.geometry.specs.declared.Geometry.{Geometry}
+use Rattle.geometry.specs.Geometry.{imageLength, sectorWords, withinLimits}
+use Rattle.geometry.proofs.Laws.{limits-hold}
+use Rattle.image.specs.Words.{Image, Shaped}
+use Rattle.shellwaltz.specs.Refusals.{Row, firstThatApplies, row1, row2, row3, row4}
+
+-- rows 1 and 4 are tests turned round: what the code got by turning its test round is what the row says
+pub as-tested : {r t u : Bool} → r ≡ t → not r ≡ u → not t ≡ u
+as-tested e h = sym (ap not e) ∙ h
+
+-- where row 1 does not apply, the image has its geometry's length, within the limits
+pub shaped-left : (geo : Geometry) (image : Image) → row1 geo image .applies ≡ false → Shaped geo image
+shaped-left geo image passed =
+    let both = both-pass (withinLimits geo) (eqb (length image) (imageLength geo)) (not-false _ passed) in
+    record { limits = limits-hold geo (both .0); long = eqb-true _ _ (both .1) }
+
+-- where rows 1 to 4 do not apply, the rows after them decide
+pub past-four :
+    (geo : Geometry) (image : Image) (n : ℕ) (buffer : List ℕ) (rest : List Row) →
+    row1 geo image .applies ≡ false →
+    length buffer ≡ sectorWords →
+    n < geo .logical →
+    row4 geo image .applies ≡ false →
+    firstThatApplies (row1 geo image ∷ row2 geo image buffer ∷ row3 geo image n ∷ row4 geo image ∷ rest) ≡ firstThatApplies rest
+past-four geo image n buffer rest fit long below well = rw (fit, eq-eqb _ _ long, lt-leb _ _ below, well)

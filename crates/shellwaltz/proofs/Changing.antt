@@ -1,0 +1,38 @@
+-- What a write and a release report and leave, by their answer: laws that the proofs of the two calls share. Assumes nothing.
+use mathlib.Core.Path.{_≡_, refl, sym, ap, _∙_}
+use mathlib.Core.Logic.{_≢_}
+use mathlib.Core.List.{List, []}
+use Prim.Native.Nat.{ℕ}
+use Rattle.geometry.specs.declared.Geometry.{Geometry}
+use Rattle.image.specs.Words.{Image}
+use Rattle.flash.specs.Steps.{Step, run, wordsIn, erasuresIn}
+use Rattle.flash.specs.Placing.{releasing}
+use Rattle.flash.specs.Writing.{writing}
+use Rattle.flash.proofs.Stores.{run-none}
+use Rattle.shellwaltz.specs.declared.Answer.{Answer}
+use Rattle.shellwaltz.specs.declared.Answer.the-variants.{Accepted}
+use Rattle.shellwaltz.specs.declared.Outcome.{Outcome}
+use Rattle.shellwaltz.specs.Refusals.{writeAnswer, releaseAnswer}
+use Rattle.shellwaltz.specs.Calls.{ifAccepted, writeSteps, releaseSteps, outcome, writeOutcome, written, releaseOutcome, released}
+use Rattle.shellwaltz.proofs.Rows.{if-accepted, if-refused}
+
+-- a call whose steps are these where it is accepted, and none where it is refused
+module _ (geo : Geometry) (image : Image) (answer : Answer) (steps : List Step) where
+  abbrev done : List Step
+  done = ifAccepted answer steps []
+
+  pub left-alone : (a : Answer) (r : Outcome) → answer ≡ a → a ≢ Accepted → r ≡ outcome a [] → (r ≡ outcome answer done) × (image ≡ run geo image done)
+  left-alone a r e n q =
+      let none = if-refused answer steps [] (λ p. n (sym e ∙ p)) in
+      (q ∙ ap (λ (x : Answer). outcome x []) (sym e) ∙ ap (outcome answer) (sym none), sym (ap (run geo image) none ∙ run-none geo image))
+
+  pub carried-out :
+      (words erasures : ℕ) (after : Image) →
+      answer ≡ Accepted →
+      words ≡ wordsIn steps →
+      erasures ≡ erasuresIn steps →
+      after ≡ run geo image steps →
+      (_≡_ {A = Outcome} (record { answer = Accepted; words = words; erasures = erasures }) (outcome answer done)) × (after ≡ run geo image done)
+  carried-out words erasures after e p q r =
+      let all = if-accepted steps [] e in
+      (rw (all, p, q, e), r ∙ ap (run geo image) (sym all))

@@ -1,0 +1,156 @@
+-- `shellwaltz::release` meets its contract: its tests are rows 1, 3, 4 and 5, asked in that order; row 5 applies where no word was programmed.
+use mathlib.Core.Path.{_≡_, refl, sym, ap, _∙_}
+use mathlib.Core.Bool.{Bool, true, false}
+use mathlib.Core.List.{List, []}
+use Prim.Native.Nat.{ℕ, _<_}
+use native.Mathlib.Omega.{arith}
+use borrow.Author.Needs.{needs}
+use borrow.Author.Tests.{le-leb, lt-leb, not-false}
+use Rattle.geometry.specs.declared.Geometry.{Geometry}
+use Rattle.image.specs.declared.Found.{Found}
+use Rattle.image.specs.declared.Found.the-variants.{At, Nothing}
+use Rattle.image.specs.Words.{Image, Shaped}
+use Rattle.image.specs.Slots.{find}
+use Rattle.ranges.specs.Range.{one-if}
+use Rattle.flash.specs.Steps.{run, wordsIn, erasuresIn}
+use Rattle.flash.specs.Placing.{releasing}
+use Rattle.flash.proofs.Counts.{isAt, releasing-words, releasing-erasures}
+use Rattle.flash.proofs.Stores.{run-none}
+use Rattle.shellwaltz.specs.declared.Answer.the-variants.{Accepted, BadGeometry, BadNumber, Malformed, Unmapped}
+use Rattle.shellwaltz.specs.Refusals.{row1, row4, isNothing, releaseAnswer}
+use Rattle.shellwaltz.specs.Calls.{releaseSteps}
+use Rattle.shellwaltz.proofs.CallLaws.{as-tested, shaped-left}
+use Rattle.shellwaltz.proofs.Changing.{left-alone, carried-out}
+use Rattle.shellwaltz.proofs.release.Statement.{statement}
+use Rattle.shellwaltz.proofs.release.Tie as tie
+
+-- the number is found, or no word is programmed
+nothing-found : (geo : Geometry) (image : Image) (n words : ℕ) → words ≡ wordsIn (releasing geo image n) → words ≡ 0 → find geo image n ≡ Nothing
+nothing-found geo image n words p z = go (find geo image n) refl
+  where
+    go : (f : Found) → find geo image n ≡ f → find geo image n ≡ Nothing
+    go (At b i) e = absurd (omega (arith, p ∙ releasing-words geo image n ∙ ap (λ (f : Found). one-if (isAt f)) e))
+    go Nothing e = e
+
+something-found : (geo : Geometry) (image : Image) (n words : ℕ) → words ≡ wordsIn (releasing geo image n) → (words ≡ 0 → ⊥) → isNothing (find geo image n) ≡ false
+something-found geo image n words p z = go (find geo image n) refl
+  where
+    go : (f : Found) → find geo image n ≡ f → isNothing (find geo image n) ≡ false
+    go (At b i) e = rw e
+    go Nothing e = absurd (z (p ∙ releasing-words geo image n ∙ ap (λ (f : Found). one-if (isAt f)) e))
+
+-- past the first test, and past the third
+left1 : (c : tie.Else1) → let start = c .before .before .before .before in row1 (start .args .geo) (start .args .image .now) .applies ≡ false
+left1 c = as-tested (c .before .fits2 .ensures) (c .if1 .left)
+
+left3 : (c : tie.Else3) → let start = c .before .before .before .before .before .before .before .before .before in row4 (start .args .geo) (start .args .image .now) .applies ≡ false
+left3 c = as-tested (c .before .well-formed .ensures) (c .if3 .left)
+
+fits-requires : tie.Need-fits-requires
+fits-requires c κs = search needs
+
+refused-requires : tie.Need-refused-requires
+refused-requires c κs = search needs
+
+same-length : tie.Need-same-length
+same-length c = search needs
+
+returns : tie.Need-returns
+unfolding releaseAnswer releaseSteps
+returns c =
+    left-alone _ _ _ _ BadGeometry (c .refused .result) (rw (as-tested (c .before .before .fits2 .ensures) (c .before .if1 .taken))) (λ e. let z : _≡_ {A = ℕ} 0 1 = cc in omega arith) (c .refused .ensures)
+
+refused-requires-2 : tie.Need-refused-requires-2
+refused-requires-2 c κs = search needs
+
+same-length-2 : tie.Need-same-length-2
+same-length-2 c = search needs
+
+returns-2 : tie.Need-returns-2
+unfolding releaseAnswer releaseSteps
+returns-2 c =
+    left-alone _ _ _ _ BadNumber (c .refused2 .result)
+    (rw (left1 (c .before .before .before), le-leb _ _ (c .before .if2 .taken)))
+    (λ e. let z : _≡_ {A = ℕ} 0 1 = cc in omega arith) (c .refused2 .ensures)
+
+well-formed-requires : tie.Need-well-formed-requires
+well-formed-requires c κs = shaped-left _ _ (left1 (c .before .before .before))
+
+refused-requires-3 : tie.Need-refused-requires-3
+refused-requires-3 c κs = search needs
+
+same-length-3 : tie.Need-same-length-3
+same-length-3 c = search needs
+
+returns-3 : tie.Need-returns-3
+unfolding releaseAnswer releaseSteps
+returns-3 c =
+    let second = c .before .before .before .before in
+    left-alone _ _ _ _ Malformed (c .refused3 .result)
+    (rw (left1 (second .before .before), lt-leb _ _ (second .if2 .left), as-tested (c .before .before .well-formed .ensures) (c .before .if3 .taken)))
+    (λ e. let z : _≡_ {A = ℕ} 0 1 = cc in omega arith) (c .refused3 .ensures)
+
+release-requires : tie.Need-release-requires
+release-requires c κs =
+    let second = c .before .before .before .before in
+    (shaped-left _ _ (left1 (second .before .before)), second .if2 .left)
+
+refused-requires-4 : tie.Need-refused-requires-4
+refused-requires-4 c κs = search needs
+
+same-length-4 : tie.Need-same-length-4
+same-length-4 c = search needs
+
+returns-4 : tie.Need-returns-4
+unfolding releaseAnswer releaseSteps releasing
+returns-4 c =
+    let start = c .before .before .before .before .before .before .before .before .before .before .before .before .before .before .before in
+    let done = c .before .before .before .before .release in
+    let third = c .before .before .before .before .before .before in
+    let second = third .before .before .before in
+    let none = nothing-found (start .args .geo) (start .args .image .now) (start .args .n) (done .result) (done .ensures .0) (c .before .if4 .taken) in
+    let left =
+    left-alone (start .args .geo) (start .args .image .now) (releaseAnswer (start .args .geo) (start .args .image .now) (start .args .n)) (releasing (start .args .geo) (start .args .image .now) (start .args .n))
+    Unmapped (c .refused4 .result)
+    (rw (left1 (second .before .before), lt-leb _ _ (second .if2 .left), left3 third, none))
+    (λ e. let z : _≡_ {A = ℕ} 0 1 = cc in omega arith) (c .refused4 .ensures) in
+    (left .0, done .ensures .1 ∙ rw none (run-none _ _) ∙ left .1)
+
+same-length-5 : tie.Need-same-length-5
+same-length-5 c = search needs
+
+returns-5 : tie.Need-returns-5
+unfolding releaseAnswer releaseSteps
+returns-5 c =
+    let start = c .before .before .before .before .before .before .before .before .before .before .before .before .before .before in
+    let done = c .before .before .before .release in
+    let third = c .before .before .before .before .before in
+    let second = third .before .before .before in
+    let found = something-found (start .args .geo) (start .args .image .now) (start .args .n) (done .result) (done .ensures .0) (c .if4 .left) in
+    carried-out _ _ _ _ (done .result) 0 (done .last .0)
+    (rw (left1 (second .before .before), lt-leb _ _ (second .if2 .left), left3 third, found))
+    (done .ensures .0)
+    (sym (releasing-erasures (start .args .geo) (start .args .image .now) (start .args .n)))
+    (done .ensures .1)
+
+pub release-spec : {M : Type 1} → statement M
+release-spec =
+    tie.close
+    (tie.spec
+    fits-requires
+    refused-requires
+    same-length
+    returns
+    refused-requires-2
+    same-length-2
+    returns-2
+    well-formed-requires
+    refused-requires-3
+    same-length-3
+    returns-3
+    release-requires
+    refused-requires-4
+    same-length-4
+    returns-4
+    same-length-5
+    returns-5)

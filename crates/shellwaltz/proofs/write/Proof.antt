@@ -1,0 +1,245 @@
+-- `shellwaltz::write` meets its contract: its tests are rows 1, 2, 3, 4 and 6, asked in that order, and the plan says which steps are carried out.
+use mathlib.Core.Path.{_≡_, refl, sym, ap, _∙_}
+use mathlib.Core.Logic.{_≢_}
+use mathlib.Core.Bool.{Bool, true, false}
+use mathlib.Core.List.{List, [], _∷_}
+use Prim.Native.Nat.{ℕ, _<_}
+use native.Mathlib.Omega.{arith}
+use lib.ListN.{length}
+use borrow.Author.Needs.{needs}
+use borrow.Author.Tests.{eq-eqb, ne-eqb, le-leb, lt-leb, not-false}
+use Rattle.geometry.specs.declared.Geometry.{Geometry}
+use Rattle.geometry.specs.Geometry.{sectorWords}
+use Rattle.image.specs.Words.{Image, Shaped, Words32}
+use Rattle.image.specs.WellFormed.{wellFormed}
+use Rattle.image.proofs.Facts.{sound-maps}
+use Rattle.image.specs.Blocks.{victim}
+use Rattle.flash.specs.Steps.{run, wordsIn, erasuresIn}
+use Rattle.flash.specs.Writing.{reclaimingFirst}
+use Rattle.flash.specs.declared.Plan.the-variants.{Fill, Reclaim, Worn}
+use Rattle.flash.proofs.Planned.{plan-says, fill-says, worn-says, writing-fills, writing-reclaims, filling-erases-nothing}
+use Rattle.flash.proofs.Written.{Sector, victim-in, victim-reclaimable, reclaiming-once}
+use Rattle.shellwaltz.specs.declared.Answer.the-variants.{Accepted, BadGeometry, BadBuffer, BadNumber, Malformed, WornOut}
+use Rattle.shellwaltz.specs.Refusals.{firstThatApplies, row1, row6, writeAnswer}
+use Rattle.shellwaltz.specs.Calls.{writeSteps}
+use Rattle.shellwaltz.proofs.CallLaws.{as-tested, shaped-left, past-four}
+use Rattle.shellwaltz.proofs.Accepted.{formed-ready}
+use Rattle.shellwaltz.proofs.Changing.{left-alone, carried-out}
+use Rattle.shellwaltz.proofs.write.Statement.{statement}
+use Rattle.shellwaltz.proofs.write.Tie as tie
+
+-- past the first test
+left1 : (c : tie.Else1) → let start = c .before .before .before .before .before in row1 (start .args .geo) (start .args .image .now) .applies ≡ false
+left1 c = as-tested (c .before .fits2 .ensures) (c .if1 .left)
+
+-- past the fourth: what was handed in is as the write wants it
+record Handed (geo : Geometry) (image : Image) (n : ℕ) (buffer : List ℕ) : Type 0 where
+  shaped : Shaped geo image
+  long : length buffer ≡ sectorWords
+  number : n < geo .logical
+  formed : wellFormed geo image ≡ true
+  answer : writeAnswer geo image n buffer ≡ firstThatApplies (row6 geo image ∷ [])
+
+handed : (c : tie.Else4)
+    → let start = c .before .before .before .before .before .before .before .before .before .before .before in
+    Handed (start .args .geo) (start .args .image .now) (start .args .n) (start .args .buffer .now)
+unfolding writeAnswer
+handed c =
+    let third = c .before .before .before in
+    let second = third .before .before in
+    let args = second .before .before .before .before .before .before .args in
+    let formed = as-tested (c .before .well-formed .ensures) (c .if4 .left) in
+    record {
+      shaped = shaped-left _ _ (left1 (second .before));
+      long = second .if2 .left;
+      number = third .if3 .left;
+      formed = not-false _ formed;
+      answer =
+          past-four _ _ _ (args .buffer .now) (row6 (args .geo) (args .image .now) ∷ [])
+          (left1 (second .before)) (second .if2 .left) (third .if3 .left) formed;
+    }
+
+fits-requires : tie.Need-fits-requires
+fits-requires c κs = search needs
+
+refused-requires : tie.Need-refused-requires
+refused-requires c κs = search needs
+
+same-length : tie.Need-same-length
+same-length c = search needs
+
+returns : tie.Need-returns
+unfolding writeAnswer writeSteps
+returns c =
+    left-alone _ _ _ _ BadGeometry (c .refused .result) (rw (as-tested (c .before .before .fits2 .ensures) (c .before .if1 .taken))) (λ e. let z : _≡_ {A = ℕ} 0 1 = cc in omega arith) (c .refused .ensures)
+
+refused-requires-2 : tie.Need-refused-requires-2
+refused-requires-2 c κs = search needs
+
+same-length-2 : tie.Need-same-length-2
+same-length-2 c = search needs
+
+returns-2 : tie.Need-returns-2
+unfolding writeAnswer writeSteps
+returns-2 c =
+    left-alone _ _ _ _ BadBuffer (c .refused2 .result) (rw (left1 (c .before .before), ne-eqb _ _ (c .before .if2 .taken))) (λ e. let z : _≡_ {A = ℕ} 0 1 = cc in omega arith) (c .refused2 .ensures)
+
+refused-requires-3 : tie.Need-refused-requires-3
+refused-requires-3 c κs = search needs
+
+same-length-3 : tie.Need-same-length-3
+same-length-3 c = search needs
+
+returns-3 : tie.Need-returns-3
+unfolding writeAnswer writeSteps
+returns-3 c =
+    let second = c .before .before .before in
+    left-alone _ _ _ _ BadNumber (c .refused3 .result)
+    (rw (left1 (second .before), eq-eqb _ _ (second .if2 .left), le-leb _ _ (c .before .if3 .taken)))
+    (λ e. let z : _≡_ {A = ℕ} 0 1 = cc in omega arith) (c .refused3 .ensures)
+
+well-formed-requires : tie.Need-well-formed-requires
+well-formed-requires c κs = shaped-left _ _ (left1 (c .before .before .before .before))
+
+refused-requires-4 : tie.Need-refused-requires-4
+refused-requires-4 c κs = search needs
+
+same-length-4 : tie.Need-same-length-4
+same-length-4 c = search needs
+
+returns-4 : tie.Need-returns-4
+unfolding writeAnswer writeSteps
+returns-4 c =
+    let third = c .before .before .before .before in
+    let second = third .before .before in
+    left-alone _ _ _ _ Malformed (c .refused4 .result)
+    (rw (
+      left1 (second .before),
+      eq-eqb _ _ (second .if2 .left),
+      lt-leb _ _ (third .if3 .left),
+      as-tested (c .before .before .well-formed .ensures) (c .before .if4 .taken),
+    ))
+    (λ e. let z : _≡_ {A = ℕ} 0 1 = cc in omega arith) (c .refused4 .ensures)
+
+plan-requires : tie.Need-plan-requires
+plan-requires c κs =
+    let h = handed (c .before) in
+    let start = c .before .before .before .before .before .before .before .before .before .before .before .before in
+    let words : Words32 (start .args .image .now) = record { small = λ q. c .before .before .before .before .before .before .before .before .before .before .before .slice-known .given q .fits } in
+    let ready = formed-ready (start .args .geo) (start .args .image .now) (h .shaped) words (h .formed) .0 in
+    (h .shaped, (sound-maps _ _ (ready .sound), λ must. victim-in _ _ ready must))
+
+enum-told : tie.Need-enum-told
+enum-told c = search needs
+
+refused-requires-5 : tie.Need-refused-requires-5
+refused-requires-5 c κs = search needs
+
+enum-told-2 : tie.Need-enum-told-2
+enum-told-2 c = search needs
+
+fill-requires : tie.Need-fill-requires
+fill-requires c κs =
+    let start = c .before .before .before .before .before .before .before .before .before .before .before .before .before .before .before .before in
+    let h = handed (c .before .before .before .before .before) in
+    let words : Words32 (start .args .image .now) = record { small = λ q. c .before .before .before .before .before .before .before .before .before .before .before .before .before .before .before .slice-known .given q .fits } in
+    let ready = formed-ready (start .args .geo) (start .args .image .now) (h .shaped) words (h .formed) in
+    (h .shaped, (sound-maps _ _ (ready .0 .sound), (ready .1, (h .number, h .long))))
+
+enum-known-v : tie.Need-enum-known-v
+enum-known-v c = search needs
+
+reclaim-and-fill-requires : tie.Need-reclaim-and-fill-requires
+reclaim-and-fill-requires c κs =
+    let h = handed (c .before .before .before .before .before .before) in
+    (h .shaped, (h .formed, (sym (c .before .before .before .before .plan .ensures) ∙ c .before .before .v .given .1, (h .number, h .long))))
+
+same-length-5 : tie.Need-same-length-5
+same-length-5 c = search needs
+
+returns-5 : tie.Need-returns-5
+unfolding writeSteps
+returns-5 c =
+    let start = c .before .before .before .before .before .before .before .before .before .before .before .before .before .before .before .before in
+    let h = handed (c .before .before .before .before .before) in
+    let worn = worn-says (start .args .geo) (start .args .image .now) (sym (c .before .before .before .plan .ensures) ∙ c .before .enum-told .given .1) in
+    left-alone _ _ _ _ WornOut (c .refused5 .result) (h .answer ∙ rw worn) (λ e. let z : _≡_ {A = ℕ} 0 1 = cc in omega arith) (c .refused5 .ensures)
+
+same-length-6 : tie.Need-same-length-6
+same-length-6 c = search needs
+
+returns-6 : tie.Need-returns-6
+unfolding writeSteps
+returns-6 c =
+    let start = c .before .before .before .before .before .before .before .before .before .before .before .before .before .before .before .before .before .before .before in
+    let geo = start .args .geo in
+    let image = start .args .image .now in
+    let h = handed (c .before .before .before .before .before .before .before .before) in
+    let fill = c .before .before .fill in
+    let plain = fill-says geo image (sym (c .before .before .before .before .before .before .plan .ensures) ∙ c .before .before .before .before .enum-told2 .given .1) in
+    let steps = writing-fills geo image plain (start .args .n) (start .args .buffer .now) in
+    carried-out _ _ _ _ (fill .result) 0 (fill .last .0)
+    (h .answer ∙ rw plain)
+    (fill .ensures .0 ∙ ap wordsIn (sym steps))
+    (sym (ap erasuresIn steps ∙ filling-erases-nothing geo image (start .args .n) (start .args .buffer .now)))
+    (fill .ensures .1 ∙ ap (run geo image) (sym steps))
+
+same-length-7 : tie.Need-same-length-7
+same-length-7 c = search needs
+
+returns-7 : tie.Need-returns-7
+unfolding writeSteps
+returns-7 c =
+    let start = c .before .before .before .before .before .before .before .before .before .before .before .before .before .before .before .before .before .before .before .before in
+    let geo = start .args .geo in
+    let image = start .args .image .now in
+    let h = handed (c .before .before .before .before .before .before .before .before .before) in
+    let done = c .before .before .reclaim-and-fill in
+    let v = c .before .before .before .before .before .v .given .0 .0 in
+    let says = plan-says geo image v (sym (c .before .before .before .before .before .before .before .plan .ensures) ∙ c .before .before .before .before .before .v .given .1) in
+    let words : Words32 image = record { small = λ q. c .before .before .before .before .before .before .before .before .before .before .before .before .before .before .before .before .before .before .before .slice-known .given q .fits } in
+    let handed-words : Words32 (start .args .buffer .now) = record { small = λ q. c .before .before .before .before .before .before .before .before .before .before .before .before .before .before .before .before .before .before .shared-slice-known .given q .fits } in
+    let ready = formed-ready geo image (h .shaped) words (h .formed) .0 in
+    let steps =
+    writing-reclaims geo image (says .0) (start .args .n) (start .args .buffer .now)
+    ∙ ap (λ (x : ℕ). reclaimingFirst geo image x (start .args .n) (start .args .buffer .now)) (sym (says .1)) in
+    let once =
+    reclaiming-once geo image ready (says .0) (victim geo image) (victim-reclaimable geo image ready (says .0) (says .2))
+    (start .args .n) (start .args .buffer .now) (record { number = h .number; long = h .long; words = handed-words }) in
+    carried-out _ _ _ _ (done .result) 1 (done .last .0)
+    (h .answer ∙ rw (says .0, ne-eqb _ _ (says .2)))
+    (done .ensures .0 ∙ ap wordsIn (sym steps))
+    (sym (ap erasuresIn (writing-reclaims geo image (says .0) (start .args .n) (start .args .buffer .now)) ∙ once))
+    (done .ensures .1 ∙ ap (run geo image) (sym steps))
+
+pub write-spec : {M : Type 1} → statement M
+write-spec =
+    tie.close
+    (tie.spec
+    fits-requires
+    refused-requires
+    same-length
+    returns
+    refused-requires-2
+    same-length-2
+    returns-2
+    refused-requires-3
+    same-length-3
+    returns-3
+    well-formed-requires
+    refused-requires-4
+    same-length-4
+    returns-4
+    plan-requires
+    enum-told
+    refused-requires-5
+    enum-told-2
+    fill-requires
+    enum-known-v
+    reclaim-and-fill-requires
+    same-length-5
+    returns-5
+    same-length-6
+    returns-6
+    same-length-7
+    returns-7)

@@ -1,0 +1,161 @@
+-- `writing::filling::reclaim_and_fill` meets its contract: the victim is one that may be reclaimed, so that what the reclaim leaves is
+-- well formed and asks for no further reclaim.
+use mathlib.Core.Path.{_≡_, refl, sym, ap, _∙_}
+use mathlib.Core.Bool.{true}
+use mathlib.Core.List.{List}
+use Prim.Native.Nat.{ℕ, _+_, _^_, _<_}
+use native.Mathlib.Omega.{arith}
+use lib.ListN.{length}
+use borrow.Author.Needs.{needs}
+use Rattle.ranges.proofs.Tests.{both-pass}
+use Rattle.geometry.specs.declared.Geometry.{Geometry}
+use Rattle.geometry.proofs.Laws.{d-small}
+use Rattle.image.specs.Words.{Image, Shaped, Words32}
+use Rattle.image.specs.Blocks.{leastWornBlank}
+use Rattle.image.specs.WellFormed.{R6, sound, wellFormed}
+use Rattle.image.proofs.Facts.{sound-facts, sound-maps}
+use Rattle.flash.specs.Steps.{run, wordsIn}
+use Rattle.flash.specs.Writing.{reclaiming, reclaimingFirst, filling, planned}
+use Rattle.flash.specs.declared.Plan.the-variants.{Reclaim}
+use Rattle.flash.proofs.Filling.{Ready}
+use Rattle.flash.proofs.Planned.{plan-says}
+use Rattle.flash.proofs.Stores.{run-append, words-append}
+use Rattle.flash.proofs.Written.{Reclaimable, Sector, victim-reclaimable, blank-in, reclaim-ready, reclaim-blank, reclaiming-wrote}
+use Rattle.writing.proofs.filling.reclaim_and_fill.Statement.{statement}
+use Rattle.writing.proofs.filling.reclaim_and_fill.Tie as tie
+
+-- what the contract asks, as the laws want it
+module _ (geo : Geometry) (image : Image) (v : ℕ) (shaped : Shaped geo image) (formed : wellFormed geo image ≡ true) (plan : planned geo image ≡ Reclaim v) (words : Words32 image) where
+  ready : Ready geo image
+  unfolding wellFormed
+  ready = record { shaped = shaped; words = words; sound = sound-facts geo image (both-pass (sound geo image) (R6 geo image) formed .0) }
+
+  may : Reclaimable geo image v
+  may =
+      let says = plan-says geo image v plan in
+      rw (says .1) (victim-reclaimable geo image ready (says .0) (says .2))
+
+  -- the words and the image, by what the two calls left
+  sum-is :
+      (n : ℕ) (ws : List ℕ) (now : Image) (first second : ℕ) →
+      now ≡ run geo image (reclaiming geo image v) →
+      first ≡ wordsIn (reclaiming geo image v) →
+      second ≡ wordsIn (filling geo now n ws) →
+      first + second ≡ wordsIn (reclaimingFirst geo image v n ws)
+  unfolding reclaimingFirst
+  sum-is n ws now first second e p q =
+      omega (
+        arith,
+        q ∙ ap (λ (x : Image). wordsIn (filling geo x n ws)) e,
+        words-append (reclaiming geo image v) (filling geo (run geo image (reclaiming geo image v)) n ws),
+      )
+
+  -- which is few: the bound of one write
+  few :
+      (n : ℕ) (ws : List ℕ) →
+      Sector geo n ws →
+      (now : Image) (first second : ℕ) →
+      now ≡ run geo image (reclaiming geo image v) →
+      first ≡ wordsIn (reclaiming geo image v) →
+      second ≡ wordsIn (filling geo now n ws) →
+      first + second < 2 ^ 32
+  few n ws sector now first second e p q =
+      let wrote = reclaiming-wrote geo image ready (plan-says geo image v plan .0) v may n ws sector in
+      omega (arith, wrote .words, d-small geo (shaped .limits), sum-is n ws now first second e p q)
+
+  image-is :
+      (n : ℕ) (ws : List ℕ) (now end : Image) →
+      now ≡ run geo image (reclaiming geo image v) →
+      end ≡ run geo now (filling geo now n ws) →
+      end ≡ run geo image (reclaimingFirst geo image v n ws)
+  unfolding reclaimingFirst
+  image-is n ws now end e p =
+      p
+      ∙ ap (λ (x : Image). run geo x (filling geo x n ws)) e
+      ∙ sym (run-append geo image (reclaiming geo image v) (filling geo (run geo image (reclaiming geo image v)) n ws))
+
+least-worn-blank-requires : tie.Need-least-worn-blank-requires
+least-worn-blank-requires c κs =
+    let start = c .before .before .before in
+    let words : Words32 (start .args .image .now) = record { small = λ q. c .before .before .slice-known .given q .fits } in (
+      start .pre .0,
+      sound-maps (start .args .geo) (start .args .image .now)
+          (ready (start .args .geo) (start .args .image .now) (start .args .v) (start .pre .0) (start .pre .1 .0) (start .pre .1 .1 .0) words .sound),
+    )
+
+reclaim-requires : tie.Need-reclaim-requires
+reclaim-requires c κs =
+    let start = c .before .before .before .before .before in
+    let geo = start .args .geo in
+    let image = start .args .image .now in
+    let words : Words32 image = record { small = λ q. c .before .before .before .before .slice-known .given q .fits } in
+    let able = may geo image (start .args .v) (start .pre .0) (start .pre .1 .0) (start .pre .1 .1 .0) words in
+    let set = ready geo image (start .args .v) (start .pre .0) (start .pre .1 .0) (start .pre .1 .1 .0) words in
+    let must = plan-says geo image (start .args .v) (start .pre .1 .1 .0) .0 in
+    let blank = blank-in geo image set must (start .args .v) able in (
+      start .pre .0,
+      (able .block, (omega (arith, c .before .least-worn-blank .ensures, blank), (c .before .least-worn-blank .ensures, able .wearable))),
+    )
+
+fill-requires : tie.Need-fill-requires
+fill-requires c κs =
+    let start = c .before .before .before .before .before .before .before .before .before in
+    let geo = start .args .geo in
+    let image = start .args .image .now in
+    let words : Words32 image = record { small = λ q. c .before .before .before .before .before .before .before .before .slice-known .given q .fits } in
+    let able = may geo image (start .args .v) (start .pre .0) (start .pre .1 .0) (start .pre .1 .1 .0) words in
+    let set = ready geo image (start .args .v) (start .pre .0) (start .pre .1 .0) (start .pre .1 .1 .0) words in
+    let must = plan-says geo image (start .args .v) (start .pre .1 .1 .0) .0 in
+    let left = c .before .before .before .reclaim .ensures .1 in
+    let after = reclaim-ready geo image set must (start .args .v) able in (
+      rw left (after .shaped),
+      (
+        rw left (sound-maps geo _ (after .sound)),
+        (rw left (reclaim-blank geo image set must (start .args .v) able), (start .pre .1 .1 .1 .0, start .pre .1 .1 .1 .1)),
+      ),
+    )
+
+add-result : tie.Need-add-result
+add-result c =
+    let start = c .before .before .before .before .before .before .before .before .before .before .before .before in
+    let first = c .before .before .before .before .before .before .reclaim in
+    let second = c .before .before .fill in
+    record {
+      fits =
+          few (start .args .geo) (start .args .image .now) (start .args .v) (start .pre .0) (start .pre .1 .0) (start .pre .1 .1 .0)
+          (record { small = λ q. c .before .before .before .before .before .before .before .before .before .before .before .slice-known .given q .fits })
+          (start .args .n) (start .args .words .now)
+          (record {
+            number = start .pre .1 .1 .1 .0;
+            long = start .pre .1 .1 .1 .1;
+            words = record { small = λ q. c .before .before .before .before .before .before .before .before .before .before .shared-slice-known .given q .fits };
+          })
+          (first .last .0) (first .result) (second .result) (first .ensures .1) (first .ensures .0) (second .ensures .0);
+    }
+
+same-length : tie.Need-same-length
+same-length c = search needs
+
+returns : tie.Need-returns
+returns c =
+    let start = c .before .before .before .before .before .before .before .before .before .before .before .before in
+    let first = c .before .before .before .before .before .before .reclaim in
+    let second = c .before .before .fill in (
+      sum-is (start .args .geo) (start .args .image .now) (start .args .v) (start .pre .0) (start .pre .1 .0) (start .pre .1 .1 .0)
+          (record { small = λ q. c .before .before .before .before .before .before .before .before .before .before .before .slice-known .given q .fits })
+          (start .args .n) (start .args .words .now) (first .last .0) (first .result) (second .result) (first .ensures .1) (first .ensures .0) (second .ensures .0),
+      image-is (start .args .geo) (start .args .image .now) (start .args .v) (start .pre .0) (start .pre .1 .0) (start .pre .1 .1 .0)
+          (record { small = λ q. c .before .before .before .before .before .before .before .before .before .before .before .slice-known .given q .fits })
+          (start .args .n) (start .args .words .now) (first .last .0) (second .last .0) (first .ensures .1) (second .ensures .1),
+    )
+
+pub reclaim-and-fill-spec : {M : Type 1} → statement M
+reclaim-and-fill-spec =
+    tie.close
+    (tie.spec
+    least-worn-blank-requires
+    reclaim-requires
+    fill-requires
+    add-result
+    same-length
+    returns)

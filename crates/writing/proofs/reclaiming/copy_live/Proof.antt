@@ -1,0 +1,209 @@
+-- `flash::reclaiming::copy_live` meets its contract: after the slots passed the image, the words and the slots taken are what the
+-- definition's steps so far leave and count.
+use mathlib.Core.Logic.{⊎-elim}
+use mathlib.Core.List.{List}
+use mathlib.Core.Path.{_≡_, refl, sym, _∙_}
+use Prim.Native.Nat.{ℕ, _+_, _-_, _≤_}
+use native.Mathlib.Omega.{arith}
+use native.Mathlib.Numerals.{add-one}
+use lib.ListN.{length}
+use borrow.Author.Needs.{needs}
+use Rattle.geometry.specs.declared.Geometry.{Geometry}
+use Rattle.geometry.specs.Geometry.{d}
+use Rattle.image.specs.declared.Slot.{Slot}
+use Rattle.image.specs.declared.Slot.the-variants.{Live}
+use Rattle.image.specs.Words.{Image, Shaped, contents}
+use Rattle.image.specs.Slots.{slot}
+use Rattle.flash.specs.Steps.{run, wordsIn}
+use Rattle.flash.specs.Placing.{placing}
+use Rattle.flash.specs.Writing.{copiedSlot, copying}
+use Rattle.flash.proofs.Stores.{run-append, words-append}
+use Rattle.flash.proofs.CodeLaws.{still-shaped}
+use Rattle.placing.proofs.BoundLaws.{live-number, placing-most, copying-most}
+use Rattle.writing.proofs.reclaiming.copy_live.Statement.{statement}
+use Rattle.writing.proofs.reclaiming.copy_live.Tie as tie
+
+-- how things stand after the first i slots of v
+record Copying (geo : Geometry) (image₀ : Image) (v t i : ℕ) (image : Image) (words taken : ℕ) : Type 0 where
+  image-is : image ≡ run geo image₀ (copying geo image₀ v t i .steps)
+  words-is : words ≡ wordsIn (copying geo image₀ v t i .steps)
+  taken-is : taken ≡ copying geo image₀ v t i .taken
+  long : length image ≡ length image₀
+
+module _ {geo : Geometry} {image₀ : Image} {v t i : ℕ} {image : Image} {words taken : ℕ} (before : Copying geo image₀ v t i image words taken) where
+  -- one slot more, by what the image says of it now
+  next : {s : Slot} → slot geo image v i ≡ s → copying geo image₀ v t (i + 1) ≡ copiedSlot geo image v t i (copying geo image₀ v t i) s
+  unfolding copying
+  next e = rw (add-one, ← before .image-is, e)
+
+  -- a slot that changes nothing
+  passed : copying geo image₀ v t (i + 1) ≡ copying geo image₀ v t i → Copying geo image₀ v t (i + 1) image words taken
+  passed e =
+      record {
+        image-is = rw e (before .image-is);
+        words-is = rw e (before .words-is);
+        taken-is = rw e (before .taken-is);
+        long = before .long;
+      }
+
+  -- a live slot, whose contents are ws
+  copied :
+      {n : ℕ} {ws : List ℕ} {image' : Image} {words' : ℕ} →
+      slot geo image v i ≡ Live n →
+      ws ≡ contents geo image v i →
+      image' ≡ run geo image (placing geo image n ws t taken) →
+      words' ≡ wordsIn (placing geo image n ws t taken) →
+      length image' ≡ length image →
+      Copying geo image₀ v t (i + 1) image' (words + words') (taken + 1)
+  copied {n} {ws} e same placed counted kept =
+      record {
+        image-is = rw (next e, run-append, ← before .image-is, ← before .taken-is, ← same) placed;
+        words-is = rw (next e, words-append, ← before .words-is, ← before .taken-is, ← same, ← counted);
+        taken-is = rw (next e, ← before .taken-is, add-one);
+        long = kept ∙ before .long;
+      }
+
+abbrev Inv-loop : tie.InvT-loop
+Inv-loop image₀ geo v t d words₀ taken₀ i₀ image words taken i = (i ≤ d) × Copying geo image₀ v t i image words taken
+
+abbrev μ-loop : tie.MeasureT-loop
+μ-loop image₀ geo v t d words₀ taken₀ i₀ image words taken i = d - i
+
+-- the image keeps its shape
+shaped : (c : tie.At-loop Inv-loop μ-loop) → Shaped (c .before .before .before .args .geo) (c .loop .image)
+shaped c = still-shaped _ (c .before .before .before .pre .0) (c .loop .inv .1 .long)
+
+-- so far no more slots are taken than passed
+room : (c : tie.At-loop Inv-loop μ-loop) → c .loop .taken ≤ c .loop .i
+room c =
+    let a = c .before .before .before .args in
+    omega (arith, c .loop .inv .1 .taken-is, copying-most (a .geo) (a .image .now) (a .v) (a .t) (c .loop .i) .1)
+
+-- the slot of this turn is live for the number that the code found in it
+live : (c : tie.After-n Inv-loop μ-loop) →
+    let turn = c .before .before .before .before .before in
+    let a = turn .before .before .before .args in
+    slot (a .geo) (turn .loop .image) (a .v) (turn .loop .i) ≡ Live (c .n .given .0 .0)
+live c = sym (c .before .before .slot-at .ensures) ∙ c .n .given .1
+
+d-requires : tie.Need-d-requires Inv-loop μ-loop
+d-requires c κs = search needs
+
+loop-holds : tie.Need-loop-holds Inv-loop μ-loop
+unfolding copying run wordsIn
+loop-holds c =
+    (omega arith, record { image-is = refl; words-is = refl; taken-is = refl; long = refl })
+
+slot-at-requires : tie.Need-slot-at-requires Inv-loop μ-loop
+slot-at-requires c κs = (shaped (c .before .before), omega arith)
+
+enum-known-n : tie.Need-enum-known-n Inv-loop μ-loop
+enum-known-n c = search needs
+
+slice-aggregate-copy-contents : tie.Need-slice-aggregate-copy-contents Inv-loop μ-loop
+slice-aggregate-copy-contents c = refl
+
+copy-contents-requires : tie.Need-copy-contents-requires Inv-loop μ-loop
+copy-contents-requires c κs =
+    (shaped (c .before .before .before .before .before .before .before .before), omega arith)
+
+slice-aggregate-place : tie.Need-slice-aggregate-place Inv-loop μ-loop
+slice-aggregate-place c = sym (c .before .before .before .copy-contents .kept .1 .1 .1 .1 .0)
+
+place-requires : tie.Need-place-requires Inv-loop μ-loop
+place-requires c κs =
+    let buffer = c .before .before .before in
+    let known = buffer .before .before .before .before in
+    let turn = known .before .before .before .before .before in (
+      shaped turn,
+      (live-number _ _ _ _ _ (live known), (buffer .copy-contents .kept .1 .1 .1 .1 .0, omega (arith, room turn))),
+    )
+
+add-words : tie.Need-add-words Inv-loop μ-loop
+add-words c =
+    let placed = c .before .before in
+    let turn = placed .before .before .before .before .before .before .before .before .before .before .before .before .before in
+    let start = turn .before .before .before in
+    let a = start .args in
+    omega (
+      arith,
+      start .pre .0 .limits,
+      turn .loop .inv .1 .words-is,
+      copying-most (a .geo) (a .image .now) (a .v) (a .t) (turn .loop .i) .0,
+      placed .place .ensures .0,
+      placing-most (a .geo) (turn .loop .image) (placed .before .before .before .before .before .before .before .before .n .given .0 .0)
+          (placed .before .before .before .before .copy-contents .last .1 .1 .1 .1 .0)
+          (a .t)
+          (turn .loop .taken),
+    )
+
+add-taken : tie.Need-add-taken Inv-loop μ-loop
+add-taken c = omega (arith, room (c .before .before .before .before .before .before .before .before .before .before .before .before .before .before .before))
+
+enum-told : tie.Need-enum-told Inv-loop μ-loop
+enum-told c = search needs
+
+enum-told-2 : tie.Need-enum-told-2 Inv-loop μ-loop
+enum-told-2 c = search needs
+
+enum-told-3 : tie.Need-enum-told-3 Inv-loop μ-loop
+enum-told-3 c = search needs
+
+add-i : tie.Need-add-i Inv-loop μ-loop
+add-i c = omega arith
+
+loop-less : tie.Need-loop-less Inv-loop μ-loop
+loop-less c = omega arith
+
+loop-again : tie.Need-loop-again Inv-loop μ-loop
+loop-again c =
+    let turn = c .before .before .before .before in
+    let v = turn .loop .inv .1 in
+    let this = sym (c .before .slot-at .ensures) in (
+      omega arith,
+      ⊎-elim
+          (λ w.
+          rw (w .12, w .13, w .14)
+          (copied v (this ∙ w .1 .given .1) (w .5 .ensures) (w .9 .ensures .1) (w .9 .ensures .0) (w .9 .kept .0)))
+          (⊎-elim
+          (λ w. rw (w .2, w .3, w .4) (passed v (next v (this ∙ w .1 .given .1))))
+          (⊎-elim
+          (λ w. rw (w .2, w .3, w .4) (passed v (next v (this ∙ w .1 .given .1))))
+          (λ w. rw (w .2, w .3, w .4) (passed v (next v (this ∙ w .1 .given .1))))))
+          (c .match .came),
+    )
+
+same-length : tie.Need-same-length Inv-loop μ-loop
+same-length c = c .before .loop .inv .1 .long
+
+returns : tie.Need-returns Inv-loop μ-loop
+returns c =
+    let geo = c .before .before .before .before .args .geo in
+    let v = c .before .loop .inv .1 in
+    let end : c .before .loop .i ≡ d geo = omega arith in
+    (rw end at (v .words-is), rw end at (v .image-is))
+
+pub copy-live-spec : {M : Type 1} → statement M
+copy-live-spec =
+    tie.close
+    (tie.spec
+    Inv-loop
+    μ-loop
+    d-requires
+    loop-holds
+    slot-at-requires
+    enum-known-n
+    slice-aggregate-copy-contents
+    copy-contents-requires
+    slice-aggregate-place
+    place-requires
+    add-words
+    add-taken
+    enum-told
+    enum-told-2
+    enum-told-3
+    add-i
+    loop-less
+    loop-again
+    same-length
+    returns)
