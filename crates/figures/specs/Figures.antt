@@ -2,7 +2,7 @@
 -- what the paper prints, and one statement of them all.
 use mathlib.Core.Bool.{Bool, true, _&&_}
 use mathlib.Core.List.{List, [], _∷_}
-use Prim.Native.Nat.{ℕ}
+use Prim.Native.Nat.{ℕ, _+_, _-_, _*_}
 use lib.Dec.{T, eqb}
 use lib.ListN.{replicate}
 use Rattle.ranges.specs.Range.{one-if}
@@ -113,3 +113,27 @@ figures =
 -- P1 to P9
 abbrev pub P1-to-P9 : Type 0
 P1-to-P9 = T (allMatch figures)
+
+-- "269 is the bound itself; the fourth write makes E 2 at w 4, also the bound.": at (2,3,1) the third write meets the bound of one write
+-- with equality, and runs of three and of four writes meet the run bound, at E 1 and at E 2
+abbrev pub threeWrites : List Call
+threeWrites = Write 0 (sector 1) ∷ Write 0 (sector 2) ∷ Write 0 (sector 3) ∷ []
+
+abbrev pub runBound : State → ℕ
+runBound end = (2 - 1) * d (shape 2 3 1) + g (shape 2 3 1) * (end .erasures - 1) + 1
+
+abbrev pub tight : List Figure
+tight =
+    let two = shape 2 3 1 in
+    let after2 = written two (written two (fresh two) 0 (sector 1)) 0 (sector 2) in
+    let three = ran two (started (fresh two)) threeWrites in
+    let four = ran two (started (fresh two)) fourWrites in
+    (133 * (d two - g two) + 136) is writeOutcome two after2 0 (sector 3) .words
+    ∷ runBound three is three .writes
+    ∷ three .erasures is 1
+    ∷ runBound four is four .writes
+    ∷ four .erasures is 2
+    ∷ []
+
+abbrev pub BoundsAreTight : Type 0
+BoundsAreTight = T (allMatch tight)

@@ -5,3 +5,4 @@ pub mod Running
 pub mod Demands
 pub mod CallLaws
 pub mod Changing
+pub mod Properties

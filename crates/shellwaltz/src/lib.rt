@@ -194,10 +194,10 @@ pub fn write(image: &mut [u32], geo: Geometry, n: u32, buffer: &[u32]) -> Outcom
     if !fits(image, geo) {
         return refused(Answer::BadGeometry);
     }
-    if buffer.len() != 128 {
+    if 128 != buffer.len() {
         return refused(Answer::BadBuffer);
     }
-    if geo.logical <= n {
+    if n >= geo.logical {
         return refused(Answer::BadNumber);
     }
     if !rules::well_formed(image, geo) {
@@ -232,7 +232,7 @@ pub fn release(image: &mut [u32], geo: Geometry, n: u32) -> Outcome
     if !fits(image, geo) {
         return refused(Answer::BadGeometry);
     }
-    if geo.logical <= n {
+    if n >= geo.logical {
         return refused(Answer::BadNumber);
     }
     if !rules::well_formed(image, geo) {

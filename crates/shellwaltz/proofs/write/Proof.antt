@@ -51,12 +51,12 @@ handed c =
     let formed = as-tested (c .before .well-formed .ensures) (c .if4 .left) in
     record {
       shaped = shaped-left _ _ (left1 (second .before));
-      long = second .if2 .left;
+      long = sym (second .if2 .left);
       number = third .if3 .left;
       formed = not-false _ formed;
       answer =
           past-four _ _ _ (args .buffer .now) (row6 (args .geo) (args .image .now) ∷ [])
-          (left1 (second .before)) (second .if2 .left) (third .if3 .left) formed;
+          (left1 (second .before)) (sym (second .if2 .left)) (third .if3 .left) formed;
     }
 
 fits-requires : tie.Need-fits-requires
@@ -82,7 +82,7 @@ same-length-2 c = search needs
 returns-2 : tie.Need-returns-2
 unfolding writeAnswer writeSteps
 returns-2 c =
-    left-alone _ _ _ _ BadBuffer (c .refused2 .result) (rw (left1 (c .before .before), ne-eqb _ _ (c .before .if2 .taken))) (λ e. let z : _≡_ {A = ℕ} 0 1 = cc in omega arith) (c .refused2 .ensures)
+    left-alone _ _ _ _ BadBuffer (c .refused2 .result) (rw (left1 (c .before .before), ne-eqb _ _ (λ e. c .before .if2 .taken (sym e)))) (λ e. let z : _≡_ {A = ℕ} 0 1 = cc in omega arith) (c .refused2 .ensures)
 
 refused-requires-3 : tie.Need-refused-requires-3
 refused-requires-3 c κs = search needs
@@ -95,7 +95,7 @@ unfolding writeAnswer writeSteps
 returns-3 c =
     let second = c .before .before .before in
     left-alone _ _ _ _ BadNumber (c .refused3 .result)
-    (rw (left1 (second .before), eq-eqb _ _ (second .if2 .left), le-leb _ _ (c .before .if3 .taken)))
+    (rw (left1 (second .before), eq-eqb _ _ (sym (second .if2 .left)), le-leb _ _ (c .before .if3 .taken)))
     (λ e. let z : _≡_ {A = ℕ} 0 1 = cc in omega arith) (c .refused3 .ensures)
 
 well-formed-requires : tie.Need-well-formed-requires
@@ -115,7 +115,7 @@ returns-4 c =
     left-alone _ _ _ _ Malformed (c .refused4 .result)
     (rw (
       left1 (second .before),
-      eq-eqb _ _ (second .if2 .left),
+      eq-eqb _ _ (sym (second .if2 .left)),
       lt-leb _ _ (third .if3 .left),
       as-tested (c .before .before .well-formed .ensures) (c .before .if4 .taken),
     ))
