@@ -77,6 +77,12 @@ module _ (geo : Geometry) (image : Image) where
 
   -- ---- an accepted write
 
+  pub write-accepted : (n : ℕ) (buffer : List ℕ) → writeAnswer geo image n buffer ≡ Accepted → Shaped geo image × (wellFormed geo image ≡ true)
+  unfolding writeAnswer
+  write-accepted n buffer e =
+      let rows : NoneApplies (writeRows geo image n buffer) = none-applies 0 (writeRows geo image n buffer) e refl in
+      (shaped-left geo image (rows .0), formed-by (rows .1 .1 .1 .0))
+
   module _ (n : ℕ) (buffer : List ℕ) (words : Words32 image) (handed : Words32 buffer) (accepted : writeAnswer geo image n buffer ≡ Accepted) where
     write-rows : NoneApplies (writeRows geo image n buffer)
     unfolding writeAnswer
@@ -104,6 +110,12 @@ module _ (geo : Geometry) (image : Image) where
         at-ceiling must worn = rw (must, eq-eqb (eraseCount geo image (victim geo image)) ceiling worn)
 
   -- ---- an accepted release
+
+  pub release-accepted : (n : ℕ) → releaseAnswer geo image n ≡ Accepted → Shaped geo image × (wellFormed geo image ≡ true)
+  unfolding releaseAnswer
+  release-accepted n e =
+      let rows : NoneApplies (releaseRows geo image n) = none-applies 0 (releaseRows geo image n) e refl in
+      (shaped-left geo image (rows .0), formed-by (rows .1 .1 .0))
 
   module _ (n : ℕ) (words : Words32 image) (accepted : releaseAnswer geo image n ≡ Accepted) where
     release-rows : NoneApplies (releaseRows geo image n)

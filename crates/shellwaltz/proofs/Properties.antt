@@ -1,16 +1,28 @@
 -- The further promises hold: each statement of specs/Properties.antt. Assumes nothing.
-use mathlib.Core.Path.{_≡_, sym, ap, _∙_}
+use mathlib.Core.Path.{_≡_, refl, sym, ap, _∙_}
 use mathlib.Core.Bool.{true}
+use mathlib.Core.List.{List}
+use mathlib.Core.Option.{some, none}
+use Prim.Native.Nat.{ℕ}
 use native.Mathlib.Omega.{arith}
+use lib.ListN.{length}
 use Rattle.ranges.proofs.Tests.{both-pass}
+use Rattle.geometry.specs.declared.Geometry.{Geometry}
+use Rattle.image.specs.declared.Found.{Found}
+use Rattle.image.specs.declared.Found.the-variants.{At, Nothing}
+use Rattle.image.specs.Words.{Image, contents}
+use Rattle.image.specs.Slots.{find, mapOf}
 use Rattle.image.specs.WellFormed.{R6, sound, wellFormed}
 use Rattle.image.proofs.Capacity.{image-parts, live-at-most}
 use Rattle.image.proofs.Facts.{sound-facts}
-use Rattle.image.proofs.Finding.{live-found, map-at}
-use Rattle.shellwaltz.specs.Refusals.{checkAnswer, reportAnswer}
-use Rattle.shellwaltz.specs.Calls.{fresh, formatted, totalsOf, noTotals, reported}
-use Rattle.shellwaltz.specs.Properties.{TheOneSlot, FormatMakesAFreshImage, ReportAddsUp, Determined}
-use Rattle.shellwaltz.proofs.Accepted.{check-accepted, format-accepted, formed-ready}
+use Rattle.image.proofs.Finding.{live-found, map-at, map-nothing}
+use Rattle.flash.specs.Steps.{run}
+use Rattle.flash.specs.Placing.{releasing}
+use Rattle.flash.specs.Writing.{writing}
+use Rattle.shellwaltz.specs.Refusals.{checkAnswer, reportAnswer, readAnswer}
+use Rattle.shellwaltz.specs.Calls.{fresh, formatted, totalsOf, noTotals, reported, readBuffer}
+use Rattle.shellwaltz.specs.Properties.{TheOneSlot, FormatMakesAFreshImage, ReportAddsUp, OthersReadAsBefore, WearAndFreeSlots, Determined}
+use Rattle.shellwaltz.proofs.Accepted.{check-accepted, format-accepted, formed-ready, ready-formed, write-accepted, write-steps, write-wrote, release-accepted, release-steps, release-blank, release-released}
 use Rattle.shellwaltz.proofs.Fresh.{fresh-formed, fresh-map, fresh-frees, fresh-worn}
 use Rattle.shellwaltz.proofs.Rows.{if-accepted}
 
@@ -34,6 +46,72 @@ report-adds-up geo image words accepted =
     let ready = formed-ready geo image (checked .0) words (checked .1) .0 in
     rw (if-accepted (totalsOf geo image) (noTotals geo image (reportAnswer geo image)) accepted)
     (image-parts geo image (ready .sound), live-at-most geo image (ready .sound) words)
+
+-- two images of one length, both well formed, that map m alike read m alike
+read-same :
+    (geo : Geometry) (image after : Image) (m : ℕ) (handed : List ℕ) →
+    length after ≡ length image →
+    wellFormed geo image ≡ true →
+    wellFormed geo after ≡ true →
+    mapOf geo after m ≡ mapOf geo image m →
+    (readAnswer geo after m handed ≡ readAnswer geo image m handed) × (readBuffer geo after m handed ≡ readBuffer geo image m handed)
+unfolding readAnswer readBuffer
+read-same geo image after m handed long formed formed' same = go (find geo after m) refl (find geo image m) refl
+  where
+    go :
+        (f : Found) →
+        find geo after m ≡ f →
+        (f' : Found) →
+        find geo image m ≡ f' →
+        (readAnswer geo after m handed ≡ readAnswer geo image m handed) × (readBuffer geo after m handed ≡ readBuffer geo image m handed)
+    go (At b i) e (At c j) e' =
+        let alike : contents geo after b i ≡ contents geo image c j =
+        inner (sym (map-at geo after m b i e) ∙ same ∙ map-at geo image m c j e') in
+        rw (long, formed, formed', e, e', alike) (refl, refl)
+      where
+        inner : {x y : List ℕ} → some x ≡ some y → x ≡ y
+        inner p = cc
+    go (At b i) e Nothing e' =
+        absurd
+        (let clash : some (contents geo after b i) ≡ none = sym (map-at geo after m b i e) ∙ same ∙ map-nothing geo image m e' in
+        let z : _≡_ {A = ℕ} 0 1 = cc in
+        omega arith)
+    go Nothing e (At c j) e' =
+        absurd
+        (let clash : some (contents geo image c j) ≡ none = sym (map-at geo image m c j e') ∙ sym same ∙ map-nothing geo after m e in
+        let z : _≡_ {A = ℕ} 0 1 = cc in
+        omega arith)
+    go Nothing e Nothing e' = rw (long, formed, formed', e, e') (refl, refl)
+
+pub others-read-as-before : OthersReadAsBefore
+others-read-as-before geo image n m buffer handed words given x = (
+  λ accepted.
+      let same = write-steps geo image n buffer words given accepted in
+      let w = write-wrote geo image n buffer words given accepted in
+      let rows = write-accepted geo image n buffer accepted in
+      rw same
+      (read-same geo image (run geo image (writing geo image n buffer)) m handed
+      (w .ready .shaped .long ∙ sym (rows .0 .long)) (rows .1)
+      (ready-formed geo (run geo image (writing geo image n buffer)) (w .ready) (w .still-blank)) (w .other m x)),
+  λ accepted.
+      let same = release-steps geo image n words accepted in
+      let r = release-released geo image n words accepted in
+      let rows = release-accepted geo image n accepted in
+      rw same
+      (read-same geo image (run geo image (releasing geo image n)) m handed
+      (r .ready .shaped .long ∙ sym (rows .0 .long)) (rows .1)
+      (ready-formed geo (run geo image (releasing geo image n)) (r .ready) (r .still-blank ∙ release-blank geo image n words accepted)) (r .other m x)),
+)
+
+pub wear-and-free-slots : WearAndFreeSlots
+wear-and-free-slots geo image n buffer words given = (
+  λ accepted.
+      let w = write-wrote geo image n buffer words given accepted in
+      rw (write-steps geo image n buffer words given accepted) (w .worn, w .paid, w .low),
+  λ accepted.
+      let r = release-released geo image n words accepted in
+      rw (release-steps geo image n words accepted) (r .words, r .erasures, r .free, r .worn),
+)
 
 pub determined : Determined
 determined geo image n buffer = (

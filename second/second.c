@@ -1,0 +1,600 @@
+#include "second.h"
+
+#include <string.h>
+
+#define ONES UINT32_C(0xFFFFFFFF)
+
+/* Words of a block's header with a fixed place. */
+#define ERASE_COUNT 0u
+#define LEAST_MAPPED 1u
+#define GREATEST_MAPPED 2u
+#define FREE_MAP 3u
+
+/* An entry: three state bits over a logical number. */
+#define VALID_BIT UINT32_C(0x80000000)
+#define CURRENT_BIT UINT32_C(0x40000000)
+#define STATE_MASK UINT32_C(0xE0000000)
+#define STATE_WRITING UINT32_C(0xE0000000)
+#define STATE_LIVE UINT32_C(0xC0000000)
+#define NUMBER_MASK UINT32_C(0x1FFFFFFF)
+#define FREE_ENTRY ONES
+
+#define MAP_BITS 32u
+#define MARK_WORDS (SECOND_MOST_LOGICAL / 32u)
+
+_Static_assert(SECOND_MOST_LOGICAL == (SECOND_MOST_BLOCKS - 1u) *
+               (SECOND_MOST_SECTORS - 1u) - 1u, "largest L");
+_Static_assert(MARK_WORDS * 32u == SECOND_MOST_LOGICAL, "a mark for each");
+
+struct spot {
+    uint32_t block;
+    uint32_t slot;
+};
+
+/* Steps done by a call.  64 bits wide not for the range but because a word of
+ * the image cannot then be one of the two counts, so the compiler may keep
+ * them in registers while it stores into the image. */
+struct tally {
+    uint64_t words;
+    uint64_t erasures;
+};
+
+/* ---- Geometry ---------------------------------------------------------- */
+
+uint32_t second_slots(struct second_geometry g)
+{
+    return g.sectors - 1u;
+}
+
+uint32_t second_map_words(struct second_geometry g)
+{
+    return (second_slots(g) + MAP_BITS - 1u) / MAP_BITS;
+}
+
+size_t second_image_words(struct second_geometry g)
+{
+    return (size_t)g.blocks * g.sectors * SECOND_SECTOR_WORDS;
+}
+
+uint32_t second_gain(struct second_geometry g)
+{
+    uint32_t others = g.blocks - 1u;
+
+    return (others * second_slots(g) - g.logical + others - 1u) / others;
+}
+
+bool second_geometry_ok(struct second_geometry g)
+{
+    /* Blocks and sectors first: the product below cannot then overflow. */
+    if (g.blocks < SECOND_LEAST_BLOCKS || g.blocks > SECOND_MOST_BLOCKS)
+        return false;
+    if (g.sectors < SECOND_LEAST_SECTORS || g.sectors > SECOND_MOST_SECTORS)
+        return false;
+    return g.logical >= 1u && g.logical < (g.blocks - 1u) * second_slots(g);
+}
+
+static bool image_fits(struct second_geometry g, size_t image_words)
+{
+    return second_geometry_ok(g) && image_words == second_image_words(g);
+}
+
+/* ---- Places in the image ----------------------------------------------- */
+
+static size_t block_words(struct second_geometry g)
+{
+    return (size_t)g.sectors * SECOND_SECTOR_WORDS;
+}
+
+static size_t block_place(struct second_geometry g, uint32_t block)
+{
+    return block * block_words(g);
+}
+
+static size_t map_place(struct second_geometry g, struct spot at)
+{
+    return block_place(g, at.block) + FREE_MAP + at.slot / MAP_BITS;
+}
+
+static size_t entry_place(struct second_geometry g, struct spot at)
+{
+    return block_place(g, at.block) + FREE_MAP + second_map_words(g) + at.slot;
+}
+
+static size_t content_place(struct second_geometry g, struct spot at)
+{
+    /* One sector further on: the block's first sector is its header. */
+    return block_place(g, at.block) +
+           (size_t)SECOND_SECTOR_WORDS * (at.slot + 1u);
+}
+
+/* ---- Bits -------------------------------------------------------------- */
+
+static uint32_t count_ones(uint32_t word)
+{
+    word -= (word >> 1) & UINT32_C(0x55555555);
+    word = (word & UINT32_C(0x33333333)) + ((word >> 2) & UINT32_C(0x33333333));
+    word = (word + (word >> 4)) & UINT32_C(0x0F0F0F0F);
+    return (word * UINT32_C(0x01010101)) >> 24;
+}
+
+/* For a word other than 0: what lies below its lowest one, counted. */
+static uint32_t trailing_zeros(uint32_t word)
+{
+    return count_ones((word & (~word + 1u)) - 1u);
+}
+
+static uint32_t map_bit(uint32_t slot)
+{
+    return UINT32_C(1) << (slot % MAP_BITS);
+}
+
+static bool all_ones(const uint32_t *sector)
+{
+    uint32_t all = ONES;
+
+    /* No early way out: a plain fold is what compilers make wide. */
+    for (uint32_t i = 0; i < SECOND_SECTOR_WORDS; i++)
+        all &= sector[i];
+    return all == ONES;
+}
+
+/* ---- Entries ----------------------------------------------------------- */
+
+/* True of live entries and of faults; in a well-formed image, of live only. */
+static bool looks_live(uint32_t entry)
+{
+    return (entry & STATE_MASK) == STATE_LIVE;
+}
+
+/* ---- Check ------------------------------------------------------------- */
+
+/* The rest of R2: map bits from d on are ones. */
+static bool padding_is_ones(struct second_geometry g, const uint32_t *head)
+{
+    uint32_t used = second_slots(g) % MAP_BITS;
+    uint32_t padding = used == 0u ? 0u : ONES << used;
+
+    return (head[FREE_MAP + second_map_words(g) - 1u] & padding) == padding;
+}
+
+/* Marks the number; false when it already was. */
+static bool mark(uint32_t *marks, uint32_t number)
+{
+    uint32_t bit = UINT32_C(1) << (number % 32u);
+    bool fresh = (marks[number / 32u] & bit) == 0u;
+
+    marks[number / 32u] |= bit;
+    return fresh;
+}
+
+/* R1 to R5 and R7 for one block, with the marks of the blocks before it. */
+static bool block_well_formed(struct second_geometry g, const uint32_t *head,
+                              uint32_t *marks, bool *blank)
+{
+    const uint32_t *map = head + FREE_MAP;
+    const uint32_t *entries = map + second_map_words(g);
+    const uint32_t *contents = head + SECOND_SECTOR_WORDS;
+    uint32_t slots = second_slots(g);
+    uint32_t free_slots = 0;
+    /* With no live number these hold R7 true whatever words 1 and 2 are. */
+    uint32_t least = ONES;
+    uint32_t greatest = 0;
+
+    if (head[ERASE_COUNT] > SECOND_CEILING) /* R1 */
+        return false;
+    if (!padding_is_ones(g, head)) /* R2 */
+        return false;
+    for (uint32_t slot = 0; slot < slots; slot++) {
+        uint32_t entry = entries[slot];
+        bool is_free = entry == FREE_ENTRY;
+
+        if (((map[slot / MAP_BITS] & map_bit(slot)) != 0u) != is_free) /* R2 */
+            return false;
+        if (is_free) {
+            if (!all_ones(contents + SECOND_SECTOR_WORDS * slot)) /* R3 */
+                return false;
+            free_slots++;
+        } else if (looks_live(entry)) {
+            uint32_t number = entry & NUMBER_MASK;
+
+            /* R4 comes first: it keeps the mark within the marks. */
+            if (number >= g.logical || !mark(marks, number)) /* R4, R5 */
+                return false;
+            if (number < least)
+                least = number;
+            if (number > greatest)
+                greatest = number;
+        }
+    }
+    *blank = free_slots == slots;
+    if (free_slots > 0u) /* R7 */
+        return head[LEAST_MAPPED] == ONES && head[GREATEST_MAPPED] == ONES;
+    return head[LEAST_MAPPED] <= least && greatest <= head[GREATEST_MAPPED];
+}
+
+static bool well_formed(struct second_geometry g, const uint32_t *image)
+{
+    uint32_t marks[MARK_WORDS] = {0};
+    bool any_blank = false;
+
+    for (uint32_t block = 0; block < g.blocks; block++) {
+        bool blank;
+
+        if (!block_well_formed(g, image + block_place(g, block), marks, &blank))
+            return false;
+        any_blank = any_blank || blank;
+    }
+    return any_blank; /* R6 */
+}
+
+/* ---- Looking into a well-formed image ---------------------------------- */
+
+/* The one slot, in any block, whose entry is live for the number. */
+static bool find_live(struct second_geometry g, const uint32_t *image,
+                      uint32_t number, struct spot *at)
+{
+    uint32_t slots = second_slots(g);
+    uint32_t block;
+    uint32_t slot;
+
+    for (block = 0; block < g.blocks; block++) {
+        const uint32_t *entries =
+            image + entry_place(g, (struct spot){block, 0});
+
+        for (slot = 0; slot < slots; slot++)
+            if (entries[slot] == (STATE_LIVE | number))
+                goto found;
+    }
+    return false;
+found:
+    *at = (struct spot){block, slot};
+    return true;
+}
+
+static uint32_t free_slots_of(struct second_geometry g, const uint32_t *image,
+                              uint32_t block)
+{
+    const uint32_t *map = image + map_place(g, (struct spot){block, 0});
+    uint32_t map_words = second_map_words(g);
+    uint32_t ones = 0;
+
+    for (uint32_t i = 0; i < map_words; i++)
+        ones += count_ones(map[i]);
+    /* The bits from d on are ones and stand for no slot. */
+    return ones - (map_words * MAP_BITS - second_slots(g));
+}
+
+/* For a block that has a free slot. */
+static uint32_t lowest_free_slot(struct second_geometry g,
+                                 const uint32_t *image, uint32_t block)
+{
+    const uint32_t *map = image + map_place(g, (struct spot){block, 0});
+    uint32_t i = 0;
+
+    while (map[i] == 0u)
+        i++;
+    return i * MAP_BITS + trailing_zeros(map[i]);
+}
+
+static uint32_t live_slots_of(struct second_geometry g, const uint32_t *image,
+                              uint32_t block)
+{
+    const uint32_t *entries = image + entry_place(g, (struct spot){block, 0});
+    uint32_t slots = second_slots(g);
+    uint32_t live = 0;
+
+    for (uint32_t slot = 0; slot < slots; slot++)
+        live += looks_live(entries[slot]) ? 1u : 0u;
+    return live;
+}
+
+/* ---- Steps ------------------------------------------------------------- */
+
+/* The one way a word is programmed: bits can only be cleared. */
+static void program(struct tally *done, uint32_t *word, uint32_t asked)
+{
+    *word &= asked;
+    done->words++;
+}
+
+/* The one way a block is erased. */
+static void erase(struct tally *done, uint32_t *block, size_t length)
+{
+    for (size_t i = 0; i < length; i++)
+        block[i] = ONES;
+    done->erasures++;
+}
+
+/* ---- Write ------------------------------------------------------------- */
+
+/* Step (g): to be done when the new entry is live and the old one is not. */
+static void program_range(struct second_geometry g, uint32_t *image,
+                          uint32_t block, struct tally *done)
+{
+    const uint32_t *entries = image + entry_place(g, (struct spot){block, 0});
+    uint32_t *head = image + block_place(g, block);
+    uint32_t slots = second_slots(g);
+    uint32_t least = ONES;
+    uint32_t greatest = 0;
+
+    for (uint32_t slot = 0; slot < slots; slot++) {
+        if (looks_live(entries[slot])) {
+            uint32_t number = entries[slot] & NUMBER_MASK;
+
+            if (number < least)
+                least = number;
+            if (number > greatest)
+                greatest = number;
+        }
+    }
+    program(done, head + LEAST_MAPPED, least);
+    program(done, head + GREATEST_MAPPED, greatest);
+}
+
+/* Places the number in a free slot.  Old is its live entry, NULL for none. */
+static void place(struct second_geometry g, uint32_t *image, struct spot to,
+                  uint32_t number, const uint32_t *data, uint32_t *old,
+                  struct tally *done)
+{
+    uint32_t *map = image + map_place(g, to);
+    uint32_t *entry = image + entry_place(g, to);
+    uint32_t *content = image + content_place(g, to);
+
+    program(done, map, *map & ~map_bit(to.slot)); /* (a) */
+    if (old != NULL)
+        program(done, old, *old & ~CURRENT_BIT); /* (b) */
+    for (uint32_t i = 0; i < SECOND_SECTOR_WORDS; i++)
+        program(done, content + i, data[i]); /* (c) */
+    program(done, entry, STATE_WRITING + number); /* (d) */
+    program(done, entry, STATE_LIVE + number); /* (e) */
+    if (old != NULL)
+        program(done, old, *old & ~(CURRENT_BIT | VALID_BIT)); /* (f) */
+    if (free_slots_of(g, image, to.block) == 0u)
+        program_range(g, image, to.block, done); /* (g) */
+}
+
+/* What the choice of a slot hangs on. */
+struct survey {
+    uint32_t open_blocks;
+    uint32_t first_open;
+    uint32_t blank_blocks;
+    uint32_t best_blank; /* least erase count, then lowest number */
+};
+
+static struct survey survey_blocks(struct second_geometry g,
+                                   const uint32_t *image)
+{
+    struct survey seen = {0, 0, 0, 0};
+    uint32_t least_count = ONES; /* above the ceiling */
+
+    for (uint32_t block = 0; block < g.blocks; block++) {
+        uint32_t free_slots = free_slots_of(g, image, block);
+        uint32_t count = image[block_place(g, block) + ERASE_COUNT];
+
+        if (free_slots == second_slots(g)) {
+            if (count < least_count) {
+                least_count = count;
+                seen.best_blank = block;
+            }
+            seen.blank_blocks++;
+        } else if (free_slots > 0u) {
+            if (seen.open_blocks == 0u)
+                seen.first_open = block;
+            seen.open_blocks++;
+        }
+    }
+    return seen;
+}
+
+/* Full block with most dead slots, least erase count, lowest number.  Asked
+ * only when all blocks but one are full, so there is one. */
+static uint32_t choose_victim(struct second_geometry g, const uint32_t *image)
+{
+    uint32_t victim = 0;
+    uint32_t most_dead = 0;
+    uint32_t least_count = 0;
+    bool any = false;
+
+    for (uint32_t block = 0; block < g.blocks; block++) {
+        uint32_t count = image[block_place(g, block) + ERASE_COUNT];
+        uint32_t dead;
+
+        if (free_slots_of(g, image, block) != 0u)
+            continue;
+        dead = second_slots(g) - live_slots_of(g, image, block);
+        if (!any || dead > most_dead ||
+            (dead == most_dead && count < least_count)) {
+            victim = block;
+            most_dead = dead;
+            least_count = count;
+            any = true;
+        }
+    }
+    return victim;
+}
+
+/* Moves the victim's live slots to the blank block, then erases the victim.
+ * The blank block keeps a free slot: L is below the slots of the full blocks,
+ * so the victim has a dead one. */
+static void reclaim(struct second_geometry g, uint32_t *image, uint32_t victim,
+                    uint32_t blank, struct tally *done)
+{
+    uint32_t *head = image + block_place(g, victim);
+    uint32_t count = head[ERASE_COUNT];
+    uint32_t slots = second_slots(g);
+    struct spot to = {blank, 0};
+
+    for (uint32_t slot = 0; slot < slots; slot++) {
+        struct spot from = {victim, slot};
+        uint32_t *old = image + entry_place(g, from);
+
+        if (looks_live(*old)) {
+            place(g, image, to, *old & NUMBER_MASK,
+                  image + content_place(g, from), old, done);
+            to.slot++;
+        }
+    }
+    erase(done, head, block_words(g));
+    program(done, head + ERASE_COUNT, count + 1u);
+}
+
+uint32_t second_write(uint32_t blocks, uint32_t sectors, uint32_t logical,
+                      uint32_t *image, size_t image_words,
+                      uint32_t number, const uint32_t *buffer,
+                      size_t buffer_words,
+                      uint32_t *words, uint32_t *erasures)
+{
+    struct second_geometry g = {blocks, sectors, logical};
+    struct tally done = {0, 0};
+    struct survey seen;
+    struct spot to;
+    struct spot at;
+    uint32_t *old;
+
+    *words = 0;
+    *erasures = 0;
+    if (!image_fits(g, image_words))
+        return SECOND_BAD_GEOMETRY;
+    if (buffer_words != SECOND_SECTOR_WORDS)
+        return SECOND_BAD_BUFFER;
+    if (number >= logical)
+        return SECOND_BAD_NUMBER;
+    if (!well_formed(g, image))
+        return SECOND_BAD_IMAGE;
+
+    seen = survey_blocks(g, image);
+    if (seen.open_blocks == 0u && seen.blank_blocks == 1u) {
+        uint32_t victim = choose_victim(g, image);
+
+        /* Before the first step: a refusal leaves no trace. */
+        if (image[block_place(g, victim) + ERASE_COUNT] == SECOND_CEILING)
+            return SECOND_WORN_OUT;
+        reclaim(g, image, victim, seen.best_blank, &done);
+        seen = survey_blocks(g, image);
+    }
+    if (seen.open_blocks > 0u)
+        to = (struct spot){seen.first_open,
+                           lowest_free_slot(g, image, seen.first_open)};
+    else
+        to = (struct spot){seen.best_blank, 0};
+
+    /* Only now: the reclaim may have moved the old slot. */
+    old = find_live(g, image, number, &at) ? image + entry_place(g, at) : NULL;
+    place(g, image, to, number, buffer, old, &done);
+
+    *words = (uint32_t)done.words;
+    *erasures = (uint32_t)done.erasures;
+    return SECOND_OK;
+}
+
+/* ---- The other calls --------------------------------------------------- */
+
+uint32_t second_format(uint32_t blocks, uint32_t sectors, uint32_t logical,
+                       uint32_t *image, size_t image_words,
+                       uint32_t *words, uint32_t *erasures)
+{
+    struct second_geometry g = {blocks, sectors, logical};
+
+    *words = 0;
+    *erasures = 0;
+    if (!image_fits(g, image_words))
+        return SECOND_BAD_GEOMETRY;
+
+    /* Not made of steps: it may set bits and counts nothing. */
+    for (size_t i = 0; i < image_words; i++)
+        image[i] = ONES;
+    for (uint32_t block = 0; block < blocks; block++)
+        image[block_place(g, block) + ERASE_COUNT] = 0;
+    return SECOND_OK;
+}
+
+uint32_t second_check(uint32_t blocks, uint32_t sectors, uint32_t logical,
+                      const uint32_t *image, size_t image_words)
+{
+    struct second_geometry g = {blocks, sectors, logical};
+
+    if (!image_fits(g, image_words))
+        return SECOND_BAD_GEOMETRY;
+    return well_formed(g, image) ? SECOND_OK : SECOND_BAD_IMAGE;
+}
+
+uint32_t second_report(uint32_t blocks, uint32_t sectors, uint32_t logical,
+                       const uint32_t *image, size_t image_words,
+                       uint32_t *mapped, uint32_t *free_slots,
+                       uint32_t *dead, uint32_t *erase_sum)
+{
+    struct second_geometry g = {blocks, sectors, logical};
+
+    *mapped = 0;
+    *free_slots = 0;
+    *dead = 0;
+    *erase_sum = 0;
+    if (!image_fits(g, image_words))
+        return SECOND_BAD_GEOMETRY;
+    if (!well_formed(g, image))
+        return SECOND_BAD_IMAGE;
+
+    for (uint32_t block = 0; block < blocks; block++) {
+        uint32_t live_here = live_slots_of(g, image, block);
+        uint32_t free_here = free_slots_of(g, image, block);
+
+        *mapped += live_here;
+        *free_slots += free_here;
+        /* In a well-formed image a slot is live, free or dead. */
+        *dead += second_slots(g) - live_here - free_here;
+        *erase_sum += image[block_place(g, block) + ERASE_COUNT];
+    }
+    return SECOND_OK;
+}
+
+uint32_t second_read(uint32_t blocks, uint32_t sectors, uint32_t logical,
+                     const uint32_t *image, size_t image_words,
+                     uint32_t number, uint32_t *buffer, size_t buffer_words)
+{
+    struct second_geometry g = {blocks, sectors, logical};
+    struct spot at;
+
+    if (!image_fits(g, image_words))
+        return SECOND_BAD_GEOMETRY;
+    if (buffer_words != SECOND_SECTOR_WORDS)
+        return SECOND_BAD_BUFFER;
+    if (number >= logical)
+        return SECOND_BAD_NUMBER;
+    if (!well_formed(g, image))
+        return SECOND_BAD_IMAGE;
+    if (!find_live(g, image, number, &at))
+        return SECOND_NOT_MAPPED;
+
+    memcpy(buffer, image + content_place(g, at),
+           SECOND_SECTOR_WORDS * sizeof *buffer);
+    return SECOND_OK;
+}
+
+uint32_t second_release(uint32_t blocks, uint32_t sectors, uint32_t logical,
+                        uint32_t *image, size_t image_words,
+                        uint32_t number,
+                        uint32_t *words, uint32_t *erasures)
+{
+    struct second_geometry g = {blocks, sectors, logical};
+    struct tally done = {0, 0};
+    struct spot at;
+    uint32_t *entry;
+
+    *words = 0;
+    *erasures = 0;
+    if (!image_fits(g, image_words))
+        return SECOND_BAD_GEOMETRY;
+    if (number >= logical)
+        return SECOND_BAD_NUMBER;
+    if (!well_formed(g, image))
+        return SECOND_BAD_IMAGE;
+    if (!find_live(g, image, number, &at))
+        return SECOND_NOT_MAPPED;
+
+    entry = image + entry_place(g, at);
+    program(&done, entry, *entry & ~VALID_BIT);
+
+    *words = (uint32_t)done.words;
+    *erasures = (uint32_t)done.erasures;
+    return SECOND_OK;
+}

@@ -1,0 +1,76 @@
+/* NOR sector layer over a lent image of 32-bit words.
+ *
+ * The image, the sector buffer and the places for the counts belong to the
+ * caller; nothing is kept between calls.  A pointer must be good for the
+ * length handed in with it, the places for the counts must be good, and no
+ * two of the regions may overlap.  The numbers may have any value.
+ *
+ * Every call answers 0 or the first refusal that applies.  A refused call
+ * changes no word of the image or of the buffer and reports zeros. */
+#ifndef SECOND_H
+#define SECOND_H
+
+#include <stdbool.h>
+#include <stddef.h>
+#include <stdint.h>
+
+#define SECOND_SECTOR_WORDS 128u
+#define SECOND_LEAST_BLOCKS 2u
+#define SECOND_MOST_BLOCKS 64u
+#define SECOND_LEAST_SECTORS 2u
+#define SECOND_MOST_SECTORS 64u
+/* (64 - 1) * (64 - 1) - 1, the largest number of logical sectors. */
+#define SECOND_MOST_LOGICAL 3968u
+#define SECOND_CEILING 1000000u
+
+#define SECOND_OK 0u
+#define SECOND_BAD_GEOMETRY 1u
+#define SECOND_BAD_BUFFER 2u
+#define SECOND_BAD_NUMBER 3u
+#define SECOND_BAD_IMAGE 4u
+#define SECOND_NOT_MAPPED 5u
+#define SECOND_WORN_OUT 6u
+
+struct second_geometry {
+    uint32_t blocks;
+    uint32_t sectors; /* per block, the block's header sector included */
+    uint32_t logical;
+};
+
+/* True when the three numbers are within their limits. */
+bool second_geometry_ok(struct second_geometry g);
+
+/* Worked out from the three; only for a geometry within its limits. */
+uint32_t second_slots(struct second_geometry g);     /* d */
+uint32_t second_map_words(struct second_geometry g); /* k */
+size_t second_image_words(struct second_geometry g);
+uint32_t second_gain(struct second_geometry g);      /* g */
+
+uint32_t second_format(uint32_t blocks, uint32_t sectors, uint32_t logical,
+                       uint32_t *image, size_t image_words,
+                       uint32_t *words, uint32_t *erasures);
+
+uint32_t second_check(uint32_t blocks, uint32_t sectors, uint32_t logical,
+                      const uint32_t *image, size_t image_words);
+
+uint32_t second_report(uint32_t blocks, uint32_t sectors, uint32_t logical,
+                       const uint32_t *image, size_t image_words,
+                       uint32_t *mapped, uint32_t *free_slots,
+                       uint32_t *dead, uint32_t *erase_sum);
+
+uint32_t second_read(uint32_t blocks, uint32_t sectors, uint32_t logical,
+                     const uint32_t *image, size_t image_words,
+                     uint32_t number, uint32_t *buffer, size_t buffer_words);
+
+uint32_t second_write(uint32_t blocks, uint32_t sectors, uint32_t logical,
+                      uint32_t *image, size_t image_words,
+                      uint32_t number, const uint32_t *buffer,
+                      size_t buffer_words,
+                      uint32_t *words, uint32_t *erasures);
+
+uint32_t second_release(uint32_t blocks, uint32_t sectors, uint32_t logical,
+                        uint32_t *image, size_t image_words,
+                        uint32_t number,
+                        uint32_t *words, uint32_t *erasures);
+
+#endif

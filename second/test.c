@@ -1,0 +1,1371 @@
+/* Tests.  Beside the library stand a slow check that tells the rules apart, a
+ * second account of write and release that stores results instead of taking
+ * steps, and a plain array of what every sector ought to hold. */
+#include "second.h"
+
+#include <stdio.h>
+#include <stdlib.h>
+#include <string.h>
+
+#define ONES UINT32_C(0xFFFFFFFF)
+#define LIVE UINT32_C(0xC0000000)
+#define SECTOR SECOND_SECTOR_WORDS
+#define POISON UINT32_C(0xA5A5A5A5)
+
+static unsigned long passed;
+static unsigned long failed;
+
+static void check_at(bool good, const char *what, int line)
+{
+    if (good) {
+        passed++;
+    } else {
+        failed++;
+        fprintf(stderr, "test.c:%d: %s\n", line, what);
+    }
+}
+
+#define CHECK(what) check_at((what), #what, __LINE__)
+
+/* ---- Random numbers, the same in every run ------------------------------- */
+
+static uint64_t seed = UINT64_C(0x9E3779B97F4A7C15);
+
+static uint32_t rnd(void)
+{
+    seed ^= seed << 13;
+    seed ^= seed >> 7;
+    seed ^= seed << 17;
+    return (uint32_t)(seed >> 16);
+}
+
+static uint32_t below(uint32_t limit)
+{
+    return rnd() % limit;
+}
+
+/* ---- Shape of an image, worked out apart from the library ---------------- */
+
+struct shape {
+    uint32_t b, s, l;
+};
+
+static uint32_t d_of(struct shape g) { return g.s - 1; }
+static uint32_t k_of(struct shape g) { return g.s <= 33 ? 1 : 2; }
+static size_t len_of(struct shape g) { return (size_t)g.b * g.s * 128; }
+
+static uint32_t *head_of(struct shape g, uint32_t *im, uint32_t b)
+{
+    return im + (size_t)b * g.s * 128;
+}
+
+static uint32_t *map_of(struct shape g, uint32_t *im, uint32_t b, uint32_t s)
+{
+    return head_of(g, im, b) + 3 + s / 32;
+}
+
+static uint32_t *entry_of(struct shape g, uint32_t *im, uint32_t b, uint32_t s)
+{
+    return head_of(g, im, b) + 3 + k_of(g) + s;
+}
+
+static uint32_t *data_of(struct shape g, uint32_t *im, uint32_t b, uint32_t s)
+{
+    return head_of(g, im, b) + 128 * (s + 1);
+}
+
+static bool bit(uint32_t word, uint32_t n) { return (word >> n & 1) == 1; }
+
+enum kind { FREE, LIVING, DEAD, FAULT };
+
+static enum kind kind_of(struct shape g, uint32_t e)
+{
+    if (e == ONES)
+        return FREE;
+    if (bit(e, 31) && bit(e, 30) && !bit(e, 29))
+        return e % (UINT32_C(1) << 29) < g.l ? LIVING : FAULT;
+    return DEAD;
+}
+
+static uint32_t number_of(uint32_t e) { return e % (UINT32_C(1) << 29); }
+
+static uint32_t count_kind(struct shape g, uint32_t *im, uint32_t b,
+                           enum kind want)
+{
+    uint32_t n = 0;
+
+    for (uint32_t s = 0; s < d_of(g); s++)
+        n += kind_of(g, *entry_of(g, im, b, s)) == want;
+    return n;
+}
+
+/* ---- Slow check: bit r of the answer is set when rule r is broken -------- */
+
+static bool breaks_r1(struct shape g, uint32_t *im)
+{
+    for (uint32_t b = 0; b < g.b; b++)
+        if (head_of(g, im, b)[0] > 1000000)
+            return true;
+    return false;
+}
+
+static bool breaks_r2(struct shape g, uint32_t *im)
+{
+    for (uint32_t b = 0; b < g.b; b++)
+        for (uint32_t i = 0; i < 32 * k_of(g); i++) {
+            bool ought = i >= d_of(g) || *entry_of(g, im, b, i) == ONES;
+
+            if (bit(*map_of(g, im, b, i), i % 32) != ought)
+                return true;
+        }
+    return false;
+}
+
+static bool breaks_r3(struct shape g, uint32_t *im)
+{
+    for (uint32_t b = 0; b < g.b; b++)
+        for (uint32_t s = 0; s < d_of(g); s++)
+            for (uint32_t i = 0; i < 128; i++)
+                if (*entry_of(g, im, b, s) == ONES &&
+                    data_of(g, im, b, s)[i] != ONES)
+                    return true;
+    return false;
+}
+
+static bool breaks_r4(struct shape g, uint32_t *im)
+{
+    for (uint32_t b = 0; b < g.b; b++)
+        if (count_kind(g, im, b, FAULT) > 0)
+            return true;
+    return false;
+}
+
+static bool breaks_r5(struct shape g, uint32_t *im)
+{
+    uint32_t all = g.b * d_of(g);
+
+    for (uint32_t i = 0; i < all; i++)
+        for (uint32_t j = 0; j < i; j++) {
+            uint32_t e = *entry_of(g, im, i / d_of(g), i % d_of(g));
+            uint32_t f = *entry_of(g, im, j / d_of(g), j % d_of(g));
+
+            if (kind_of(g, e) == LIVING && kind_of(g, f) == LIVING &&
+                number_of(e) == number_of(f))
+                return true;
+        }
+    return false;
+}
+
+static bool breaks_r6(struct shape g, uint32_t *im)
+{
+    for (uint32_t b = 0; b < g.b; b++)
+        if (count_kind(g, im, b, FREE) == d_of(g))
+            return false;
+    return true;
+}
+
+static bool breaks_r7(struct shape g, uint32_t *im)
+{
+    for (uint32_t b = 0; b < g.b; b++) {
+        uint32_t *h = head_of(g, im, b);
+
+        if (count_kind(g, im, b, FREE) > 0) {
+            if (h[1] != ONES || h[2] != ONES)
+                return true;
+            continue;
+        }
+        for (uint32_t s = 0; s < d_of(g); s++) {
+            uint32_t e = *entry_of(g, im, b, s);
+
+            if (kind_of(g, e) == LIVING &&
+                (h[1] > number_of(e) || number_of(e) > h[2]))
+                return true;
+        }
+    }
+    return false;
+}
+
+static uint32_t broken(struct shape g, uint32_t *im)
+{
+    return (uint32_t)breaks_r1(g, im) << 1 | (uint32_t)breaks_r2(g, im) << 2 |
+           (uint32_t)breaks_r3(g, im) << 3 | (uint32_t)breaks_r4(g, im) << 4 |
+           (uint32_t)breaks_r5(g, im) << 5 | (uint32_t)breaks_r6(g, im) << 6 |
+           (uint32_t)breaks_r7(g, im) << 7;
+}
+
+/* ---- Second account of write and release --------------------------------- */
+
+static uint32_t *model_find(struct shape g, uint32_t *im, uint32_t n)
+{
+    for (uint32_t b = 0; b < g.b; b++)
+        for (uint32_t s = 0; s < d_of(g); s++)
+            if (*entry_of(g, im, b, s) == LIVE + n)
+                return entry_of(g, im, b, s);
+    return NULL;
+}
+
+/* Leaves what placing leaves and gives what it costs. */
+static uint32_t model_put(struct shape g, uint32_t *im, uint32_t b, uint32_t s,
+                          uint32_t n, const uint32_t *data)
+{
+    uint32_t *old = model_find(g, im, n);
+    uint32_t *h = head_of(g, im, b);
+    uint32_t cost = 131;
+
+    if (old) {
+        *old = n;
+        cost += 2;
+    }
+    *map_of(g, im, b, s) ^= UINT32_C(1) << s % 32;
+    *entry_of(g, im, b, s) = LIVE + n;
+    memcpy(data_of(g, im, b, s), data, 512);
+    if (count_kind(g, im, b, FREE) == 0) {
+        h[1] = h[2] = n;
+        for (uint32_t i = 0; i < d_of(g); i++) {
+            uint32_t e = *entry_of(g, im, b, i);
+
+            if (kind_of(g, e) == LIVING && number_of(e) < h[1])
+                h[1] = number_of(e);
+            if (kind_of(g, e) == LIVING && number_of(e) > h[2])
+                h[2] = number_of(e);
+        }
+        cost += 2;
+    }
+    return cost;
+}
+
+/* Rules 1 and 2; false when neither applies. */
+static bool model_target(struct shape g, uint32_t *im, uint32_t *tb,
+                         uint32_t *ts)
+{
+    uint32_t blanks = 0;
+
+    for (uint32_t b = 0; b < g.b; b++) {
+        uint32_t n = count_kind(g, im, b, FREE);
+
+        if (n == 0 || n == d_of(g))
+            continue;
+        *tb = b;
+        for (*ts = 0; *entry_of(g, im, b, *ts) != ONES;)
+            ++*ts;
+        return true;
+    }
+    for (uint32_t b = g.b; b-- > 0;)
+        if (count_kind(g, im, b, FREE) == d_of(g)) {
+            /* Downwards, so an equal count moves to the lower number. */
+            if (blanks == 0 ||
+                head_of(g, im, b)[0] <= head_of(g, im, *tb)[0])
+                *tb = b;
+            blanks++;
+        }
+    *ts = 0;
+    return blanks > 1;
+}
+
+static bool model_better_victim(struct shape g, uint32_t *im, uint32_t a,
+                                uint32_t b)
+{
+    uint32_t dead_a = count_kind(g, im, a, DEAD);
+    uint32_t dead_b = count_kind(g, im, b, DEAD);
+
+    if (dead_a != dead_b)
+        return dead_a > dead_b;
+    return head_of(g, im, a)[0] < head_of(g, im, b)[0];
+}
+
+static uint32_t model_write(struct shape g, uint32_t *im, uint32_t n,
+                            const uint32_t *data, uint32_t *words,
+                            uint32_t *erasures)
+{
+    uint32_t tb = 0, ts = 0, to = 0;
+
+    *words = *erasures = 0;
+    if (!model_target(g, im, &tb, &ts)) {
+        uint32_t blank = tb, v = blank == 0 ? 1 : 0;
+        uint32_t count;
+
+        for (uint32_t b = 0; b < g.b; b++)
+            if (b != blank && model_better_victim(g, im, b, v))
+                v = b;
+        count = head_of(g, im, v)[0];
+        if (count == 1000000)
+            return 6;
+        for (uint32_t s = 0; s < d_of(g); s++) {
+            uint32_t e = *entry_of(g, im, v, s);
+
+            if (kind_of(g, e) == LIVING)
+                *words += model_put(g, im, blank, to++, number_of(e),
+                                    data_of(g, im, v, s));
+        }
+        memset(head_of(g, im, v), 0xFF, (size_t)g.s * 512);
+        head_of(g, im, v)[0] = count + 1;
+        *words += 1;
+        *erasures = 1;
+        CHECK(model_target(g, im, &tb, &ts));
+    }
+    *words += model_put(g, im, tb, ts, n, data);
+    return 0;
+}
+
+static uint32_t model_release(struct shape g, uint32_t *im, uint32_t n,
+                              uint32_t *words, uint32_t *erasures)
+{
+    uint32_t *e = model_find(g, im, n);
+
+    *words = *erasures = 0;
+    if (!e)
+        return 5;
+    *e = UINT32_C(0x40000000) + n;
+    *words = 1;
+    return 0;
+}
+
+/* ---- Calls, shortened ---------------------------------------------------- */
+
+static uint32_t words, erasures; /* of the last call */
+static uint32_t report[4];       /* mapped, free, dead, erase sum */
+
+/* Exactly as long as the image, so that a step outside is caught. */
+static uint32_t *lend(struct shape g)
+{
+    uint32_t *im = malloc(len_of(g) * sizeof *im);
+
+    if (!im)
+        abort();
+    return im;
+}
+
+static uint32_t do_format(struct shape g, uint32_t *im)
+{
+    words = erasures = POISON;
+    return second_format(g.b, g.s, g.l, im, len_of(g), &words, &erasures);
+}
+
+static uint32_t do_check(struct shape g, const uint32_t *im)
+{
+    return second_check(g.b, g.s, g.l, im, len_of(g));
+}
+
+static uint32_t do_report(struct shape g, const uint32_t *im)
+{
+    memset(report, 0xA5, sizeof report);
+    return second_report(g.b, g.s, g.l, im, len_of(g), &report[0], &report[1],
+                         &report[2], &report[3]);
+}
+
+static uint32_t do_read(struct shape g, const uint32_t *im, uint32_t n,
+                        uint32_t *buffer)
+{
+    return second_read(g.b, g.s, g.l, im, len_of(g), n, buffer, 128);
+}
+
+static uint32_t do_write(struct shape g, uint32_t *im, uint32_t n,
+                         const uint32_t *buffer)
+{
+    words = erasures = POISON;
+    return second_write(g.b, g.s, g.l, im, len_of(g), n, buffer, 128, &words,
+                        &erasures);
+}
+
+static uint32_t do_fill(struct shape g, uint32_t *im, uint32_t n, uint32_t fill)
+{
+    uint32_t buffer[SECTOR];
+
+    for (uint32_t i = 0; i < 128; i++)
+        buffer[i] = fill;
+    return do_write(g, im, n, buffer);
+}
+
+static uint32_t do_release(struct shape g, uint32_t *im, uint32_t n)
+{
+    words = erasures = POISON;
+    return second_release(g.b, g.s, g.l, im, len_of(g), n, &words, &erasures);
+}
+
+static uint32_t *fresh(struct shape g)
+{
+    uint32_t *im = lend(g);
+
+    CHECK(do_format(g, im) == 0 && words == 0 && erasures == 0);
+    return im;
+}
+
+static bool counts_are(uint32_t w, uint32_t e)
+{
+    return words == w && erasures == e;
+}
+
+static bool report_is(struct shape g, const uint32_t *im, uint32_t mapped,
+                      uint32_t free_slots, uint32_t dead, uint32_t sum)
+{
+    return do_report(g, im) == 0 && report[0] == mapped &&
+           report[1] == free_slots && report[2] == dead && report[3] == sum;
+}
+
+static bool same(struct shape g, const uint32_t *a, const uint32_t *b)
+{
+    return memcmp(a, b, len_of(g) * sizeof *a) == 0;
+}
+
+static bool all_are(const uint32_t *w, size_t n, uint32_t value)
+{
+    for (size_t i = 0; i < n; i++)
+        if (w[i] != value)
+            return false;
+    return true;
+}
+
+/* Takes a free slot by hand, leaving all rules but R6 and R7 as they were. */
+static void seat(struct shape g, uint32_t *im, uint32_t b, uint32_t s,
+                 uint32_t entry)
+{
+    *entry_of(g, im, b, s) = entry;
+    *map_of(g, im, b, s) &= ~(UINT32_C(1) << s % 32);
+}
+
+/* ---- Geometry: P1 to P4 -------------------------------------------------- */
+
+static bool derives(struct shape g, uint32_t d, uint32_t k, size_t length,
+                    uint32_t gain)
+{
+    struct second_geometry x = {g.b, g.s, g.l};
+
+    return second_geometry_ok(x) && second_slots(x) == d &&
+           second_map_words(x) == k && second_image_words(x) == length &&
+           second_gain(x) == gain;
+}
+
+static bool accepted(uint32_t b, uint32_t s, uint32_t l)
+{
+    struct shape g = {b, s, l};
+    uint32_t *im = lend(g);
+    uint32_t format = do_format(g, im);
+    uint32_t check = do_check(g, im);
+
+    free(im);
+    CHECK(format == check);
+    return format == 0;
+}
+
+/* Refused 1 by a lent image of the length the three would have. */
+static bool refused(uint32_t b, uint32_t s, uint32_t l)
+{
+    struct shape g = {b, s, l};
+    uint32_t *im = lend(g);
+    bool all = true;
+
+    memset(im, 0x5A, len_of(g) * sizeof *im);
+    all = do_format(g, im) == 1 && counts_are(0, 0) && do_check(g, im) == 1 &&
+          all_are(im, len_of(g), UINT32_C(0x5A5A5A5A));
+    free(im);
+    return all;
+}
+
+static void test_p1(void)
+{
+    struct shape g = {8, 16, 90};
+    uint32_t *im = fresh(g);
+
+    CHECK(derives(g, 15, 1, 16384, 3));
+    CHECK(im[0] == 0 && all_are(im + 1, 2047, ONES));
+    for (uint32_t n = 0; n < 15; n++)
+        CHECK(do_fill(g, im, 89 - n, n) == 0);
+    CHECK(counts_are(133, 0));
+    CHECK(im[0] == 0 && im[1] == 75 && im[2] == 89 && im[3] == 0xFFFF8000);
+    for (uint32_t n = 0; n < 15; n++) {
+        CHECK(im[4 + n] == LIVE + 89 - n);
+        CHECK(all_are(im + 128 * (n + 1), 128, n));
+    }
+    CHECK(all_are(im + 19, 109, ONES));
+    CHECK(all_are(im + 2049, 2047, ONES));
+    free(im);
+}
+
+static void test_p2_p3_p4(void)
+{
+    CHECK(accepted(8, 16, 104) && refused(8, 16, 105));
+    CHECK(derives((struct shape){8, 16, 104}, 15, 1, 16384, 1));
+    CHECK(refused(2, 2, 1) && accepted(2, 3, 1) && accepted(3, 2, 1));
+    CHECK(derives((struct shape){2, 3, 1}, 2, 1, 768, 1));
+    CHECK(derives((struct shape){3, 2, 1}, 1, 1, 768, 1));
+    CHECK(accepted(64, 64, 3968) && refused(64, 64, 3969));
+    CHECK(derives((struct shape){64, 64, 3968}, 63, 2, 524288, 1));
+    CHECK(derives((struct shape){4, 33, 1}, 32, 1, 16896, 32));
+    CHECK(derives((struct shape){4, 34, 1}, 33, 2, 17408, 33));
+}
+
+/* ---- Entries and steps: P5 to P9 ----------------------------------------- */
+
+static void test_p5(void)
+{
+    static const struct { uint32_t entry, answer, mapped, dead; } cases[] = {
+        {0xC0000059, 0, 1, 0}, {0xC000005A, 4, 0, 0}, {0xE0000005, 0, 0, 1},
+        {0x40000005, 0, 0, 1}, {0xC0000000, 0, 1, 0}, {0xDFFFFFFF, 4, 0, 0},
+        {0x80000005, 0, 0, 1}, {0x00000005, 0, 0, 1}, {0xFFFFFFFE, 0, 0, 1},
+        {0xBFFFFFFF, 0, 0, 1}, {0x7FFFFFFF, 0, 0, 1}, {0x00000000, 0, 0, 1},
+        {0xA0000005, 0, 0, 1}, {0x60000005, 0, 0, 1}, {0x20000005, 0, 0, 1},
+        {0xE000005A, 0, 0, 1}, {0x4000005A, 0, 0, 1}, {0x8000005A, 0, 0, 1},
+    };
+    struct shape g = {8, 16, 90};
+    uint32_t *im = fresh(g);
+
+    im[3] = 0xFFFFFFFE;
+    for (size_t i = 0; i < sizeof cases / sizeof cases[0]; i++) {
+        im[4] = cases[i].entry;
+        CHECK(do_check(g, im) == cases[i].answer);
+        CHECK(do_report(g, im) == cases[i].answer);
+        CHECK(report[0] == cases[i].mapped && report[2] == cases[i].dead);
+        CHECK(report[1] == (cases[i].answer == 0 ? 119u : 0u));
+    }
+    free(im);
+}
+
+static void test_p6_p7_p8(void)
+{
+    struct shape g = {3, 5, 7};
+    uint32_t *im = fresh(g);
+    uint32_t *other = lend(g);
+    uint32_t got[SECTOR];
+
+    CHECK(derives(g, 4, 1, 1920, 1));
+    CHECK(do_fill(g, im, 5, 0x12345678) == 0 && counts_are(131, 0)); /* P6 */
+    CHECK(im[3] == 0xFFFFFFFE && im[4] == 0xC0000005);
+    CHECK(im[0] == 0 && im[1] == ONES && im[2] == ONES);
+    CHECK(all_are(im + 5, 123, ONES));
+    CHECK(all_are(im + 128, 128, 0x12345678));
+    memcpy(other, im, len_of(g) * sizeof *im);
+
+    CHECK(do_fill(g, im, 5, 0) == 0 && counts_are(133, 0)); /* P7 */
+    CHECK(im[3] == 0xFFFFFFFC && im[4] == 5 && im[5] == 0xC0000005);
+    CHECK(all_are(im + 128, 128, 0x12345678) && all_are(im + 256, 128, 0));
+    CHECK(do_read(g, im, 5, got) == 0 && all_are(got, 128, 0));
+    CHECK(report_is(g, im, 1, 10, 1, 0));
+
+    CHECK(do_release(g, other, 5) == 0 && counts_are(1, 0)); /* P8 */
+    CHECK(other[4] == 0x40000005 && other[3] == 0xFFFFFFFE);
+    CHECK(do_release(g, other, 5) == 5 && counts_are(0, 0));
+    CHECK(do_read(g, other, 5, got) == 5 && all_are(got, 128, 0));
+    CHECK(report_is(g, other, 0, 11, 1, 0));
+    CHECK(do_fill(g, other, 5, 9) == 0 && counts_are(131, 0));
+    CHECK(other[4] == 0x40000005 && other[5] == 0xC0000005);
+    free(im);
+    free(other);
+}
+
+static void test_p9(void)
+{
+    struct shape g = {2, 3, 1};
+    uint32_t *im = fresh(g);
+
+    CHECK(do_fill(g, im, 0, 1) == 0 && counts_are(131, 0));
+    CHECK(do_fill(g, im, 0, 2) == 0 && counts_are(135, 0));
+    CHECK(im[1] == 0 && im[2] == 0 && im[4] == 0 && im[5] == LIVE);
+    CHECK(do_fill(g, im, 0, 3) == 0 && counts_are(269, 1));
+    CHECK(im[0] == 1 && all_are(im + 1, 383, ONES));
+    CHECK(im[384] == 0 && im[388] == 0 && im[389] == LIVE);
+    CHECK(report_is(g, im, 1, 2, 1, 1));
+    CHECK(do_fill(g, im, 0, 4) == 0 && counts_are(269, 1));
+    CHECK(report_is(g, im, 1, 2, 1, 2));
+    free(im);
+}
+
+/* ---- The cases without a mark -------------------------------------------- */
+
+static void test_106_writes(void)
+{
+    struct shape g = {8, 16, 90};
+    uint32_t *im = fresh(g);
+    uint32_t got[SECTOR];
+
+    for (uint32_t i = 1; i <= 105; i++) {
+        CHECK(do_fill(g, im, 0, i) == 0 && erasures == 0);
+        CHECK(words == 131u + (i > 1 ? 2 : 0) + (i % 15 == 0 ? 2 : 0));
+    }
+    CHECK(report_is(g, im, 1, 15, 104, 0));
+    CHECK(do_fill(g, im, 0, 106) == 0 && counts_are(134, 1));
+    CHECK(im[0] == 1 && all_are(im + 1, 2047, ONES));
+    CHECK(*entry_of(g, im, 7, 0) == LIVE && *map_of(g, im, 7, 0) == 0xFFFFFFFE);
+    CHECK(head_of(g, im, 7)[0] == 0);
+    CHECK(*entry_of(g, im, 6, 14) == 0);
+    CHECK(do_read(g, im, 0, got) == 0 && all_are(got, 128, 106));
+    CHECK(report_is(g, im, 1, 29, 90, 1));
+    free(im);
+}
+
+static void test_ceiling(void)
+{
+    struct shape g = {2, 3, 1};
+    uint32_t *im = fresh(g);
+    uint32_t *was = lend(g);
+
+    /* A count at the ceiling is no matter while nothing is reclaimed. */
+    im[0] = 1000000;
+    im[384] = 1000000;
+    CHECK(do_check(g, im) == 0);
+    CHECK(do_fill(g, im, 0, 1) == 0 && counts_are(131, 0));
+    CHECK(im[388] == ONES && im[4] == LIVE);
+    CHECK(do_fill(g, im, 0, 2) == 0 && counts_are(135, 0));
+    memcpy(was, im, len_of(g) * sizeof *im);
+    CHECK(do_fill(g, im, 0, 3) == 6 && counts_are(0, 0) && same(g, im, was));
+    CHECK(do_release(g, im, 0) == 0 && counts_are(1, 0));
+    CHECK(do_fill(g, im, 0, 3) == 6 && counts_are(0, 0));
+    memcpy(im, was, len_of(g) * sizeof *im);
+
+    im[0] = 999999;
+    CHECK(do_fill(g, im, 0, 3) == 0 && counts_are(269, 1));
+    CHECK(im[0] == 1000000 && im[384] == 1000000);
+    CHECK(report_is(g, im, 1, 2, 1, 2000000));
+    CHECK(do_fill(g, im, 0, 4) == 6 && counts_are(0, 0));
+    free(im);
+    free(was);
+}
+
+/* Three full blocks of (4,3,5) with 0, 1 and 2 live; block 3 is blank. */
+static uint32_t *three_full(struct shape g)
+{
+    static const uint32_t entries[6] = {0x00000004, 0x40000004, LIVE + 1,
+                                        0x00000002, LIVE + 2, LIVE + 3};
+    uint32_t *im = fresh(g);
+
+    for (uint32_t i = 0; i < 6; i++) {
+        seat(g, im, i / 2, i % 2, entries[i]);
+        for (uint32_t j = 0; j < 128; j++)
+            data_of(g, im, i / 2, i % 2)[j] = i;
+    }
+    for (uint32_t b = 0; b < 3; b++) {
+        head_of(g, im, b)[1] = 0;
+        head_of(g, im, b)[2] = 4;
+    }
+    CHECK(broken(g, im) == 0 && do_check(g, im) == 0);
+    return im;
+}
+
+static void test_victim(void)
+{
+    struct shape g = {4, 3, 5};
+    uint32_t got[SECTOR];
+    uint32_t *im = three_full(g);
+
+    /* Most dead slots first, whatever the counts. */
+    head_of(g, im, 0)[0] = 1000000;
+    CHECK(do_fill(g, im, 0, 9) == 6);
+    head_of(g, im, 0)[0] = 999999;
+    CHECK(do_fill(g, im, 0, 9) == 0 && counts_are(132, 1));
+    CHECK(head_of(g, im, 0)[0] == 1000000);
+    CHECK(*entry_of(g, im, 3, 0) == LIVE && *entry_of(g, im, 0, 0) == ONES);
+    free(im);
+
+    /* Equal in dead slots: the least count, even beside the ceiling. */
+    im = three_full(g);
+    *entry_of(g, im, 0, 1) = LIVE + 4;
+    head_of(g, im, 0)[0] = 1000000;
+    head_of(g, im, 1)[0] = 999999;
+    CHECK(do_fill(g, im, 1, 9) == 0);
+    /* One copied, the count, then a replacement that fills the block. */
+    CHECK(counts_are(133 + 1 + 135, 1));
+    CHECK(head_of(g, im, 1)[0] == 1000000);
+    CHECK(*entry_of(g, im, 3, 0) == 1 && *entry_of(g, im, 3, 1) == LIVE + 1);
+    CHECK(head_of(g, im, 3)[1] == 1 && head_of(g, im, 3)[2] == 1);
+    CHECK(do_read(g, im, 1, got) == 0 && all_are(got, 128, 9));
+    CHECK(all_are(data_of(g, im, 3, 0), 128, 2));
+    free(im);
+
+    /* Equal in counts too: the lowest number. */
+    im = three_full(g);
+    *entry_of(g, im, 0, 1) = LIVE + 4;
+    CHECK(do_fill(g, im, 0, 9) == 0 && counts_are(133 + 1 + 133, 1));
+    CHECK(head_of(g, im, 0)[0] == 1 && head_of(g, im, 1)[0] == 0);
+    CHECK(*entry_of(g, im, 3, 0) == LIVE + 4 && *entry_of(g, im, 3, 1) == LIVE);
+    CHECK(head_of(g, im, 3)[1] == 0 && head_of(g, im, 3)[2] == 4);
+    free(im);
+}
+
+static void test_choice_of_slot(void)
+{
+    struct shape g = {4, 34, 90};
+    uint32_t *im = fresh(g);
+
+    /* Blank blocks: the least count, then the lowest number. */
+    head_of(g, im, 0)[0] = 7;
+    head_of(g, im, 1)[0] = 6;
+    head_of(g, im, 2)[0] = 5;
+    head_of(g, im, 3)[0] = 5;
+    CHECK(do_fill(g, im, 0, 1) == 0 && *entry_of(g, im, 2, 0) == LIVE);
+
+    /* An open block goes before any blank one, the lowest number first, and
+     * a hole before the slots after it, over both words of the map. */
+    seat(g, im, 1, 5, 0);
+    CHECK(do_fill(g, im, 1, 1) == 0 && *entry_of(g, im, 1, 0) == LIVE + 1);
+    for (uint32_t s = 1; s < 32; s++)
+        seat(g, im, 1, s, 0);
+    CHECK(*map_of(g, im, 1, 0) == 0 && *map_of(g, im, 1, 32) == ONES);
+    CHECK(do_fill(g, im, 2, 1) == 0 && *entry_of(g, im, 1, 32) == LIVE + 2);
+    CHECK(counts_are(133, 0) && *map_of(g, im, 1, 32) == 0xFFFFFFFE);
+    CHECK(head_of(g, im, 1)[1] == 1 && head_of(g, im, 1)[2] == 2);
+
+    /* The last open block of the image, then the two blanks left. */
+    CHECK(do_fill(g, im, 3, 1) == 0 && *entry_of(g, im, 2, 1) == LIVE + 3);
+    free(im);
+}
+
+/* ---- Words the rules say nothing of -------------------------------------- */
+
+static void test_unused_words(void)
+{
+    struct shape g = {2, 3, 1};
+    uint32_t *im = fresh(g);
+
+    for (uint32_t i = 6; i < 128; i++)
+        im[i] = im[384 + i] = i * 0x01010101;
+    CHECK(do_check(g, im) == 0);
+    CHECK(do_fill(g, im, 0, 1) == 0 && do_fill(g, im, 0, 2) == 0);
+    for (uint32_t i = 6; i < 128; i++)
+        CHECK(im[i] == i * 0x01010101);
+    CHECK(do_fill(g, im, 0, 3) == 0 && counts_are(269, 1));
+    CHECK(all_are(im + 6, 122, ONES));
+    for (uint32_t i = 6; i < 128; i++)
+        CHECK(im[384 + i] == i * 0x01010101);
+    CHECK(do_format(g, im) == 0 && all_are(im + 1, 383, ONES) && im[0] == 0);
+    CHECK(all_are(im + 385, 383, ONES) && im[384] == 0);
+    free(im);
+}
+
+/* ---- Refusals ------------------------------------------------------------ */
+
+struct lent {
+    struct shape g;
+    uint32_t *im;
+    size_t im_words;
+    uint32_t number;
+    size_t buffer_words;
+};
+
+/* All calls on the same arguments: answers as given, and not a word changed.
+ * The lent image is as long as the shape used for it, not as the one told. */
+static void expect(struct lent a, struct shape real, uint32_t format,
+                   uint32_t check, uint32_t read, uint32_t write,
+                   uint32_t release, int line)
+{
+    size_t bytes = len_of(real) * sizeof(uint32_t);
+    uint32_t *im = lend(real);
+    uint32_t buffer[SECTOR];
+    struct shape g = a.g;
+    bool good = true;
+
+    memset(buffer, 0xA5, sizeof buffer);
+    memcpy(im, a.im, bytes);
+
+    good &= second_check(g.b, g.s, g.l, im, a.im_words) == check;
+    memset(report, 0xA5, sizeof report);
+    good &= second_report(g.b, g.s, g.l, im, a.im_words, &report[0],
+                          &report[1], &report[2], &report[3]) == check;
+    good &= check == 0 || all_are(report, 4, 0);
+    good &= second_read(g.b, g.s, g.l, im, a.im_words, a.number, buffer,
+                        a.buffer_words) == read;
+    good &= read == 0 || all_are(buffer, SECTOR, POISON);
+    good &= memcmp(im, a.im, bytes) == 0;
+
+    words = erasures = POISON;
+    good &= second_write(g.b, g.s, g.l, im, a.im_words, a.number, buffer,
+                         a.buffer_words, &words, &erasures) == write;
+    good &= write == 0 || (counts_are(0, 0) && memcmp(im, a.im, bytes) == 0);
+    memcpy(im, a.im, bytes);
+
+    words = erasures = POISON;
+    good &= second_release(g.b, g.s, g.l, im, a.im_words, a.number, &words,
+                           &erasures) == release;
+    good &= release == 0 || (counts_are(0, 0) && memcmp(im, a.im, bytes) == 0);
+    memcpy(im, a.im, bytes);
+
+    words = erasures = POISON;
+    good &= second_format(g.b, g.s, g.l, im, a.im_words, &words,
+                          &erasures) == format;
+    good &= counts_are(0, 0);
+    good &= format == 0 || memcmp(im, a.im, bytes) == 0;
+
+    check_at(good, "refusals", line);
+    free(im);
+}
+
+#define EXPECT(a, real, f, c, r, w, d) expect(a, real, f, c, r, w, d, __LINE__)
+
+static void test_refusal_1(void)
+{
+    static const uint32_t off[] = {0, 1, 65, 66, 0x10000, 0x10008, 0x80000000,
+                                   0x80000008, 0xFFFFFFFF};
+    static const uint32_t wide[] = {0, 105, 106, 0x10000, 0x80000000,
+                                    0x8000005A, 0xFFFFFFFF};
+    static const size_t lengths[] = {0, 1, 16383, 16385, 32768, SIZE_MAX,
+                                     SIZE_MAX / 4 + 1};
+    struct shape g = {8, 16, 90};
+    struct lent a = {g, fresh(g), len_of(g), 5, 128};
+    struct lent b;
+
+    CHECK(do_fill(g, a.im, 5, 7) == 0);
+    EXPECT(a, g, 0, 0, 0, 0, 0);
+    for (size_t i = 0; i < sizeof off / sizeof off[0]; i++) {
+        b = a;
+        b.g.b = off[i];
+        EXPECT(b, g, 1, 1, 1, 1, 1);
+        b = a;
+        b.g.s = off[i];
+        EXPECT(b, g, 1, 1, 1, 1, 1);
+        for (size_t j = 0; j < sizeof off / sizeof off[0]; j++) {
+            b.g = (struct shape){off[i], off[j], off[(i + j) % 9]};
+            EXPECT(b, g, 1, 1, 1, 1, 1);
+        }
+    }
+    for (size_t i = 0; i < sizeof wide / sizeof wide[0]; i++) {
+        b = a;
+        b.g.l = wide[i];
+        EXPECT(b, g, 1, 1, 1, 1, 1);
+    }
+    for (size_t i = 0; i < sizeof lengths / sizeof lengths[0]; i++) {
+        b = a;
+        b.im_words = lengths[i];
+        EXPECT(b, g, 1, 1, 1, 1, 1);
+    }
+    /* Another geometry of the same length is a matter for the rules only. */
+    b = a;
+    b.g = (struct shape){16, 8, 90};
+    EXPECT(b, g, 0, 4, 4, 4, 4);
+    /* Nothing is looked at before the length is known to be right. */
+    words = erasures = POISON;
+    CHECK(second_write(8, 16, 90, NULL, 0, 0, NULL, 0, &words, &erasures) == 1);
+    CHECK(counts_are(0, 0));
+    CHECK(second_format(8, 16, 90, NULL, 0, &words, &erasures) == 1);
+    CHECK(second_check(8, 16, 90, NULL, 0) == 1);
+    CHECK(second_read(8, 16, 90, NULL, 0, 0, NULL, 0) == 1);
+    CHECK(second_release(8, 16, 90, NULL, 0, 0, &words, &erasures) == 1);
+    free(a.im);
+}
+
+static void test_refusals_in_order(void)
+{
+    static const size_t sizes[] = {0, 1, 127, 129, 256, SIZE_MAX};
+    struct shape g = {8, 16, 90};
+    struct lent a = {g, fresh(g), len_of(g), 5, 128};
+    struct lent b;
+
+    EXPECT(a, g, 0, 0, 5, 0, 5);
+    CHECK(do_fill(g, a.im, 5, 7) == 0);
+    EXPECT(a, g, 0, 0, 0, 0, 0);
+    for (size_t i = 0; i < sizeof sizes / sizeof sizes[0]; i++) {
+        b = a;
+        b.buffer_words = sizes[i];
+        EXPECT(b, g, 0, 0, 2, 2, 0);
+        b.number = 90;
+        EXPECT(b, g, 0, 0, 2, 2, 3);
+        b.im_words--;
+        EXPECT(b, g, 1, 1, 1, 1, 1);
+    }
+    b = a;
+    b.number = 89;
+    EXPECT(b, g, 0, 0, 5, 0, 5);
+    b.number = 90;
+    EXPECT(b, g, 0, 0, 3, 3, 3);
+    b.number = 0xFFFFFFFF;
+    EXPECT(b, g, 0, 0, 3, 3, 3);
+
+    a.im[0] = 1000001;
+    EXPECT(a, g, 0, 4, 4, 4, 4);
+    b = a;
+    b.number = 6; /* not mapped */
+    EXPECT(b, g, 0, 4, 4, 4, 4);
+    b.number = 90;
+    EXPECT(b, g, 0, 4, 3, 3, 3);
+    b.buffer_words = 127;
+    EXPECT(b, g, 0, 4, 2, 2, 3);
+    b.g.l = 105;
+    EXPECT(b, g, 1, 1, 1, 1, 1);
+    free(a.im);
+}
+
+static void test_refusal_6_in_order(void)
+{
+    struct shape g = {2, 3, 1};
+    struct lent a = {g, fresh(g), len_of(g), 0, 128};
+    struct lent b;
+
+    CHECK(do_fill(g, a.im, 0, 1) == 0 && do_fill(g, a.im, 0, 2) == 0);
+    EXPECT(a, g, 0, 0, 0, 0, 0);
+    a.im[0] = 1000000;
+    EXPECT(a, g, 0, 0, 0, 6, 0);
+    b = a;
+    b.number = 1;
+    EXPECT(b, g, 0, 0, 3, 3, 3);
+    b.buffer_words = 0;
+    EXPECT(b, g, 0, 0, 2, 2, 3);
+    a.im[384] = 1000001;
+    EXPECT(a, g, 0, 4, 4, 4, 4);
+    free(a.im);
+}
+
+/* ---- Each rule alone, with the sound image beside it --------------------- */
+
+/* Rule 0 stands for none. */
+static void verdict(struct shape g, uint32_t *im, uint32_t rule, int line)
+{
+    check_at(broken(g, im) == (rule == 0 ? 0u : 1u << rule), "one rule", line);
+    check_at(do_check(g, im) == (rule == 0 ? 0u : 4u), "check", line);
+    check_at(do_report(g, im) == (rule == 0 ? 0u : 4u), "report", line);
+}
+
+#define VERDICT(rule) verdict(g, im, rule, __LINE__)
+
+static void test_r1(struct shape g)
+{
+    uint32_t *im = fresh(g);
+
+    for (uint32_t b = 0; b < g.b; b++) {
+        head_of(g, im, b)[0] = 1000000;
+        VERDICT(0);
+        head_of(g, im, b)[0] = 1000001;
+        VERDICT(1);
+        head_of(g, im, b)[0] = ONES;
+        VERDICT(1);
+        head_of(g, im, b)[0] = 1000000;
+    }
+    VERDICT(0);
+    free(im);
+}
+
+static void test_r2(struct shape g)
+{
+    uint32_t *im = fresh(g);
+
+    for (uint32_t i = 0; i < 32 * k_of(g); i++) {
+        *map_of(g, im, 1, i) ^= UINT32_C(1) << i % 32;
+        VERDICT(2);
+        if (i < d_of(g)) {
+            *entry_of(g, im, 1, i) = 3;
+            if (d_of(g) > 1)
+                VERDICT(0);
+            *map_of(g, im, 1, i) ^= UINT32_C(1) << i % 32;
+            if (d_of(g) > 1)
+                VERDICT(2);
+            *entry_of(g, im, 1, i) = ONES;
+        } else {
+            *map_of(g, im, 1, i) ^= UINT32_C(1) << i % 32;
+        }
+        VERDICT(0);
+    }
+    free(im);
+}
+
+static void test_r3(struct shape g)
+{
+    uint32_t *im = fresh(g);
+
+    for (uint32_t s = 0; s < d_of(g); s++) {
+        bool thorough = s == 0 || s + 1 == d_of(g);
+
+        for (uint32_t i = 0; i < 128; i += thorough ? 1 : 127) {
+            data_of(g, im, 1, s)[i] ^= UINT32_C(1) << i % 32;
+            VERDICT(3);
+            data_of(g, im, 1, s)[i] = ONES;
+        }
+        VERDICT(0);
+    }
+    /* The same in a slot that is taken: nothing is asked of its contents. */
+    seat(g, im, 1, 0, 0);
+    data_of(g, im, 1, 0)[127] = 0;
+    VERDICT(0);
+    free(im);
+}
+
+static void test_r4(struct shape g)
+{
+    uint32_t *im = fresh(g);
+
+    for (uint32_t s = 0; s < d_of(g); s++) {
+        seat(g, im, 1, s, LIVE + g.l - 1);
+        if (s + 1 == d_of(g))
+            head_of(g, im, 1)[1] = 0, head_of(g, im, 1)[2] = 0xFFFF;
+        VERDICT(0);
+        *entry_of(g, im, 1, s) = LIVE + g.l;
+        VERDICT(4);
+        *entry_of(g, im, 1, s) = 0xDFFFFFFF;
+        VERDICT(4);
+        /* The same numbers in entries that are dead. */
+        *entry_of(g, im, 1, s) = 0x80000000 + g.l;
+        VERDICT(0);
+        *entry_of(g, im, 1, s) = 0xE0000000 + g.l;
+        VERDICT(0);
+    }
+    free(im);
+}
+
+static void test_r5(struct shape g)
+{
+    uint32_t *im = fresh(g);
+    uint32_t last = d_of(g) - 1;
+
+    for (uint32_t n = 0; n < g.l; n += n < 40 ? 1 : 31) {
+        for (uint32_t b = 0; b < 2; b++) {
+            uint32_t *e = entry_of(g, im, b, last);
+
+            seat(g, im, 0, 0, LIVE + n);
+            seat(g, im, b, last, 0x80000000 + n);
+            VERDICT(0);
+            *e = LIVE + n;
+            VERDICT(5);
+            *e = 0xE0000000 + n;
+            VERDICT(0);
+            *e = LIVE + (n == 0 ? 1 : n - 1);
+            VERDICT(0);
+            *e = LIVE + n;
+            *entry_of(g, im, 0, 0) = 0x40000000 + n;
+            VERDICT(0);
+            *entry_of(g, im, 0, 0) = ONES;
+            *e = ONES;
+            *map_of(g, im, 0, 0) = *map_of(g, im, b, last) = ONES;
+            *map_of(g, im, 0, last) = ONES;
+        }
+    }
+    free(im);
+}
+
+static void test_r6(struct shape g)
+{
+    uint32_t *im = fresh(g);
+
+    for (uint32_t b = 0; b < g.b; b++) {
+        VERDICT(0);
+        seat(g, im, b, d_of(g) - 1, 0x00000001);
+    }
+    VERDICT(6);
+    for (uint32_t b = 0; b < g.b; b++) {
+        *entry_of(g, im, b, d_of(g) - 1) = ONES;
+        *map_of(g, im, b, d_of(g) - 1) = ONES;
+        VERDICT(0);
+        seat(g, im, b, d_of(g) - 1, 0x00000001);
+    }
+    free(im);
+}
+
+static void test_r7(struct shape g)
+{
+    uint32_t *im = fresh(g);
+    uint32_t *h = head_of(g, im, 0);
+    uint32_t d = d_of(g);
+
+    for (uint32_t w = 1; w <= 2; w++) { /* blank */
+        h[w] = 0x7FFFFFFF;
+        VERDICT(7);
+        h[w] = ONES;
+        VERDICT(0);
+    }
+    for (uint32_t s = 0; s + 1 < d; s++) /* open, numbers 3 and 5 live */
+        seat(g, im, 0, s, s == 0 ? LIVE + 3 : s == 1 ? LIVE + 5 : s);
+    VERDICT(0);
+    h[1] = 3;
+    VERDICT(7);
+    h[1] = ONES;
+    h[2] = 5;
+    VERDICT(7);
+    h[1] = 3; /* what would be right in the full block */
+    VERDICT(7);
+    seat(g, im, 0, d - 1, 0x00000002); /* full, with dead numbers outside */
+    VERDICT(0);
+    h[1] = 4;
+    VERDICT(7);
+    h[1] = ONES;
+    VERDICT(7);
+    h[1] = 2;
+    VERDICT(0);
+    h[1] = 0;
+    VERDICT(0);
+    h[2] = 4;
+    VERDICT(7);
+    h[2] = 6;
+    VERDICT(0);
+    h[2] = ONES;
+    VERDICT(0);
+    *entry_of(g, im, 0, d - 1) = LIVE + 6; /* the last slot counts too */
+    h[2] = 5;
+    VERDICT(7);
+    h[2] = 6;
+    VERDICT(0);
+    *entry_of(g, im, 0, 0) = *entry_of(g, im, 0, 1) = 3;
+    *entry_of(g, im, 0, d - 1) = 6;
+    h[1] = ONES; /* no live number: any two words will do */
+    h[2] = 0;
+    VERDICT(0);
+    free(im);
+}
+
+static void test_rules(void)
+{
+    static const struct shape shapes[] = {
+        {3, 5, 7}, {8, 16, 90}, {4, 33, 95}, {4, 34, 98}, {3, 64, 125},
+    };
+
+    for (size_t i = 0; i < sizeof shapes / sizeof shapes[0]; i++) {
+        test_r1(shapes[i]);
+        test_r2(shapes[i]);
+        test_r3(shapes[i]);
+        test_r4(shapes[i]);
+        test_r5(shapes[i]);
+        test_r6(shapes[i]);
+        test_r7(shapes[i]);
+    }
+    test_r1((struct shape){3, 2, 1});
+    test_r2((struct shape){3, 2, 1});
+    test_r3((struct shape){3, 2, 1});
+    test_r4((struct shape){3, 2, 1});
+    test_r6((struct shape){3, 2, 1});
+    test_r6((struct shape){2, 3, 1});
+}
+
+/* ---- Many calls against an array ----------------------------------------- */
+
+static uint32_t word_for(uint32_t number, uint32_t stamp, uint32_t i)
+{
+    uint32_t x = number * 0x9E3779B1u ^ stamp * 0x85EBCA77u ^ i * 0xC2B2AE3Du;
+
+    x ^= x >> 15;
+    if (stamp % 5 == 1)
+        return 0;
+    if (stamp % 5 == 2)
+        return ONES;
+    return x * 0x2C1B3C6Du ^ x >> 12;
+}
+
+static void sector_for(uint32_t number, uint32_t stamp, uint32_t *buffer)
+{
+    for (uint32_t i = 0; i < 128; i++)
+        buffer[i] = word_for(number, stamp, i);
+}
+
+/* Stamp 0: not mapped. */
+static bool reads_as(struct shape g, const uint32_t *im, uint32_t n,
+                     uint32_t stamp)
+{
+    uint32_t got[SECTOR], want[SECTOR];
+    uint32_t answer;
+
+    memset(got, 0xA5, sizeof got);
+    answer = do_read(g, im, n, got);
+    if (stamp == 0)
+        return answer == 5 && all_are(got, 128, POISON);
+    sector_for(n, stamp, want);
+    return answer == 0 && memcmp(got, want, sizeof got) == 0;
+}
+
+static void test_many(struct shape g, uint32_t calls, uint32_t compare_every)
+{
+    struct second_geometry x = {g.b, g.s, g.l};
+    uint32_t dearest = 136 + 133 * (d_of(g) - second_gain(x));
+    uint32_t *im = fresh(g);
+    uint32_t *model = fresh(g);
+    uint32_t *stamp = calloc(g.l, sizeof *stamp);
+    uint32_t writes = 0, erased = 0, mapped = 0;
+
+    if (!stamp)
+        abort();
+    for (uint32_t i = 1; i <= calls; i++) {
+        /* First every number once, so that the image gets as full as it can,
+         * then now and then a stretch over few numbers. */
+        uint32_t n = i <= g.l ? (i * 7919u) % g.l
+                   : i % 256 < 64 ? below(g.l) / 8 : below(g.l);
+        uint32_t what = i <= g.l ? 0 : below(16);
+        uint32_t buffer[SECTOR];
+        uint32_t w, e;
+
+        if (what < 14) {
+            sector_for(n, i, buffer);
+            CHECK(do_write(g, im, n, buffer) == 0);
+            CHECK(model_write(g, model, n, buffer, &w, &e) == 0);
+            CHECK(counts_are(w, e) && words <= dearest && erasures <= 1);
+            writes++;
+            erased += erasures;
+            /* A reclaim wins at least g slots. */
+            CHECK(erased == 0 || writes > (g.b - 1) * d_of(g) +
+                                          (erased - 1) * second_gain(x));
+            mapped += stamp[n] == 0;
+            stamp[n] = i;
+        } else if (what == 14) {
+            uint32_t answer = do_release(g, im, n);
+
+            CHECK(answer == (stamp[n] == 0 ? 5u : 0u));
+            CHECK(answer == model_release(g, model, n, &w, &e));
+            CHECK(counts_are(w, e));
+            mapped -= stamp[n] != 0;
+            stamp[n] = 0;
+        } else {
+            CHECK(reads_as(g, im, n, stamp[n]));
+        }
+        if (i % compare_every == 0 || i == calls)
+            CHECK(same(g, im, model));
+    }
+    CHECK(erased > 0);
+    CHECK(do_check(g, im) == 0 && do_report(g, im) == 0);
+    CHECK(report[0] == mapped && report[3] == erased);
+    CHECK(report[0] + report[1] + report[2] == g.b * d_of(g));
+    for (uint32_t n = 0; n < g.l; n++)
+        CHECK(reads_as(g, im, n, stamp[n]));
+    free(im);
+    free(model);
+    free(stamp);
+}
+
+static void test_many_shapes(void)
+{
+    test_many((struct shape){2, 3, 1}, 3000, 1);
+    test_many((struct shape){3, 2, 1}, 3000, 1);
+    test_many((struct shape){2, 64, 62}, 2000, 1);
+    test_many((struct shape){64, 2, 62}, 2000, 1);
+    test_many((struct shape){64, 2, 1}, 500, 1);
+    test_many((struct shape){3, 5, 7}, 5000, 1);
+    test_many((struct shape){8, 16, 90}, 5000, 1);
+    test_many((struct shape){8, 16, 104}, 5000, 1);
+    test_many((struct shape){4, 33, 95}, 2000, 1);
+    test_many((struct shape){4, 34, 98}, 2000, 1);
+    test_many((struct shape){5, 64, 200}, 2000, 1);
+    test_many((struct shape){64, 64, 3968}, 6500, 100);
+    test_many((struct shape){64, 64, 2000}, 6000, 100);
+}
+
+/* ---- Images that no call made -------------------------------------------- */
+
+static uint32_t dead_entry(struct shape g)
+{
+    for (;;) {
+        uint32_t e = below(2) ? rnd() : (below(8) << 29) + below(g.l + 2);
+
+        if (kind_of(g, e) == DEAD)
+            return e;
+    }
+}
+
+/* A random sound image: holes anywhere, several open blocks, any count. */
+static void draw_image(struct shape g, uint32_t *im)
+{
+    static const uint32_t least_counts[] = {0, 3, 500000, 999998};
+    uint32_t base = least_counts[below(4)];
+    uint32_t blank = below(g.b);
+    uint32_t fullness = below(3);
+    uint32_t liveness = below(4);
+    uint32_t next = 0; /* numbers below are live already */
+
+    CHECK(do_format(g, im) == 0);
+    for (uint32_t b = 0; b < g.b; b++) {
+        uint32_t *h = head_of(g, im, b);
+        uint32_t style = fullness == 0 ? 2 : below(fullness == 1 ? 3 : 8);
+
+        h[0] = base + below(3);
+        for (uint32_t i = 3 + k_of(g) + d_of(g); i < 128; i++)
+            h[i] = rnd();
+        if (b == blank || style == 0)
+            continue;
+        for (uint32_t s = 0; s < d_of(g); s++) {
+            if (style == 1 && below(2))
+                continue;
+            if (next < g.l && below(4) <= liveness)
+                seat(g, im, b, s, LIVE + next++);
+            else
+                seat(g, im, b, s, dead_entry(g));
+            for (uint32_t i = 0; i < 128; i++)
+                data_of(g, im, b, s)[i] = rnd();
+        }
+        if (count_kind(g, im, b, FREE) == 0) {
+            h[1] = 0;
+            h[2] = below(2) ? g.l - 1 : ONES;
+        }
+    }
+}
+
+static void call_and_compare(struct shape g, uint32_t *im, uint32_t *model,
+                             uint32_t n)
+{
+    uint32_t buffer[SECTOR];
+    uint32_t w, e, answer;
+
+    for (uint32_t i = 0; i < 128; i++)
+        buffer[i] = rnd();
+    if (below(4) == 0) {
+        answer = do_release(g, im, n);
+        CHECK(answer == model_release(g, model, n, &w, &e));
+    } else {
+        answer = do_write(g, im, n, buffer);
+        CHECK(answer == model_write(g, model, n, buffer, &w, &e));
+    }
+    CHECK(counts_are(w, e));
+    CHECK(same(g, im, model));
+    CHECK(do_check(g, im) == 0);
+}
+
+static void spoil(struct shape g, uint32_t *im)
+{
+    uint32_t b = below(g.b), s = below(d_of(g));
+    uint32_t *h = head_of(g, im, b);
+
+    switch (below(8)) {
+    case 0: h[below(3)] = below(2) ? rnd() : below(g.l + 1); break;
+    case 1: h[0] = 999999 + below(3); break;
+    case 2: *map_of(g, im, b, s) ^= UINT32_C(1) << below(32); break;
+    case 3: *entry_of(g, im, b, s) = LIVE + below(g.l + 1); break;
+    case 4: *entry_of(g, im, b, s) ^= UINT32_C(1) << below(32); break;
+    case 5: data_of(g, im, b, s)[below(128)] ^= UINT32_C(1) << below(32); break;
+    case 6: seat(g, im, b, s, dead_entry(g)); break;
+    default: h[3 + k_of(g) + d_of(g) + below(20)] = rnd(); break;
+    }
+}
+
+static void test_drawn_images(void)
+{
+    static const struct shape shapes[] = {
+        {2, 3, 1}, {3, 2, 1}, {3, 5, 7}, {4, 4, 8}, {4, 5, 6}, {3, 34, 60},
+        {6, 3, 9},
+    };
+
+    for (uint32_t round = 0; round < 2100; round++) {
+        struct shape g = shapes[round % 7];
+        uint32_t *im = lend(g), *model = lend(g);
+        uint32_t sound;
+
+        draw_image(g, im);
+        memcpy(model, im, len_of(g) * sizeof *im);
+        CHECK(broken(g, im) == 0 && do_check(g, im) == 0);
+        for (uint32_t i = 0; i < 8; i++)
+            call_and_compare(g, im, model, below(g.l));
+        for (uint32_t i = 0; i < 4; i++) {
+            struct lent a = {g, im, len_of(g), below(g.l), 128};
+
+            spoil(g, im);
+            sound = broken(g, im) == 0;
+            CHECK(do_check(g, im) == (sound ? 0u : 4u));
+            if (!sound) {
+                EXPECT(a, g, 0, 4, 4, 4, 4);
+                break;
+            }
+            memcpy(model, im, len_of(g) * sizeof *im);
+            call_and_compare(g, im, model, a.number);
+        }
+        free(im);
+        free(model);
+    }
+}
+
+int main(void)
+{
+    test_p1();
+    test_p2_p3_p4();
+    test_p5();
+    test_p6_p7_p8();
+    test_p9();
+    test_106_writes();
+    test_ceiling();
+    test_victim();
+    test_choice_of_slot();
+    test_unused_words();
+    test_refusal_1();
+    test_refusals_in_order();
+    test_refusal_6_in_order();
+    test_rules();
+    test_many_shapes();
+    test_drawn_images();
+    printf("%lu passed, %lu failed\n", passed, failed);
+    return failed == 0 ? 0 : 1;
+}
