@@ -1,15 +1,15 @@
 -- A word programmed over another: `programmed`, and when it leaves the asked word. Assumes nothing.
 use mathlib.Core.Path.{_≡_, refl, sym, ap, ap₂, _∙_}
 use mathlib.Core.Bool.{Bool, true, false}
-use Prim.Native.Nat.{ℕ, zero, suc, _+_, _-_, _*_, _/_, _%_, _^_, _≤_, _<_, min}
+use Prim.Native.Nat.{ℕ, zero, suc, _-_, _/_, _^_, _<_, min}
 use native.Mathlib.Nat.{pow-suc}
 use native.Mathlib.Decide.{decLt, ℕ-discrete}
 use native.Mathlib.Omega.{arith}
 use lib.Arith.{lt-one}
 use lib.Bits.{bitAnd, and-step, and-zero-l}
-use Rattle.ranges.specs.Range.{_implies_, allBelow}
+use Rattle.ranges.specs.Range.{_implies_}
 use Rattle.ranges.proofs.Tests.{all-at, all-of}
-use Rattle.bits.specs.Word.{wordBits, ones, bit, isSet, cleared, shared, programmed, onlyClears}
+use Rattle.bits.specs.Word.{ones, bit, isSet, cleared, shared, programmed, onlyClears}
 use Rattle.bits.proofs.Bit.{bit-zero, bit-suc, bit-at-most-one, ones-bit, bits-same, bit-set, bit-clear, set-bit, clear-bit, bit-beyond}
 use Rattle.bits.proofs.Clearing.{cleared-set, cleared-here, cleared-other, cleared-le}
 

@@ -8,12 +8,11 @@ use lib.ListN.{replicate}
 use Rattle.ranges.specs.Range.{one-if}
 use Rattle.geometry.specs.declared.Geometry.{Geometry}
 use Rattle.geometry.specs.Geometry.{d, k, g, imageLength, sectorWords, withinLimits}
-use Rattle.geometry.specs.Places.{entryWord, mapWord}
+use Rattle.geometry.specs.Places.{entryWord}
 use Rattle.image.specs.declared.Slot.{Slot}
 use Rattle.image.specs.declared.Slot.the-variants.{Free, Live, Dead, Faulty}
-use Rattle.image.specs.Words.{Image, entry, freeMap}
+use Rattle.image.specs.Words.{entry, freeMap}
 use Rattle.image.specs.Slots.{slotOf}
-use Rattle.shellwaltz.specs.declared.Outcome.{Outcome}
 use Rattle.shellwaltz.specs.Refusals.{numberOf}
 use Rattle.shellwaltz.specs.Calls.{fresh, writeOutcome, written, released}
 use Rattle.shellwaltz.specs.Runs.{Call, Write, State, ran, started}

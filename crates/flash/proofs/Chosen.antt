@@ -1,28 +1,25 @@
 -- The slot that rules 1 and 2 choose is free, and leaves another block blank. Assumes nothing.
 use mathlib.Core.Path.{_≡_, refl, sym, ap, _∙_}
-use mathlib.Core.Logic.{_≢_, _⊎_, inl, inr, ⊎-elim}
-use mathlib.Core.Bool.{Bool, true, false, not, _&&_, true≢false}
+use mathlib.Core.Logic.{_≢_}
+use mathlib.Core.Bool.{Bool, true, false, not, true≢false}
 use mathlib.Core.List.{List}
-use Prim.Native.Nat.{ℕ, _+_, _<_, _≤_}
+use Prim.Native.Nat.{ℕ, _<_, _≤_}
 use native.Mathlib.Decide.{ℕ-discrete}
 use native.Mathlib.Omega.{arith}
 use lib.Dec.{eqb}
 use borrow.Author.Tests.{not-true, not-false, eqb-true, eqb-false}
-use Rattle.ranges.specs.Range.{countBelow, anyBelow, firstBelow}
-use Rattle.ranges.proofs.Tests.{both-pass, all-at, all-of, any-at, any-of, none-at}
+use Rattle.ranges.specs.Range.{countBelow, anyBelow}
+use Rattle.ranges.proofs.Tests.{both-pass, all-at, all-of, any-at, none-at}
 use Rattle.ranges.proofs.Sums.{Two, count-two, count-fails}
 use Rattle.ranges.proofs.Searches.{best-passes, best-some}
 use Rattle.geometry.specs.declared.Geometry.{Geometry}
 use Rattle.geometry.specs.Geometry.{Limits, d}
 use Rattle.geometry.proofs.Laws.{d-positive}
-use Rattle.image.specs.declared.Slot.{Slot}
-use Rattle.image.specs.declared.Slot.the-variants.{Free, Live, Dead, Faulty}
-use Rattle.image.specs.Words.{Image, Words32}
+use Rattle.image.specs.declared.Slot.the-variants.{Free}
+use Rattle.image.specs.Words.{Image}
 use Rattle.image.specs.Slots.{slot, isFree}
 use Rattle.image.specs.Blocks.{blank, full, isOpen, lowestFree, lowestOpen, lessWorn, leastWornBlank}
-use Rattle.image.specs.WellFormed.{R6}
 use Rattle.image.proofs.Facts.{free-is}
-use Rattle.flash.specs.Steps.{Step}
 use Rattle.flash.specs.Placing.{placing}
 use Rattle.flash.specs.Writing.{anyOpen, filling, mustReclaim}
 

@@ -1,22 +1,22 @@
 -- How many words a placing programs. "Placing costs 131 words, 2 more for a replacement, 2 more if the block fills." Assumes nothing.
-use mathlib.Core.Path.{_≡_, refl, sym, ap, _∙_}
+use mathlib.Core.Path.{_≡_, refl}
 use mathlib.Core.Bool.{Bool, true, false}
 use mathlib.Core.List.{List, [], _∷_, _++_}
 use Prim.Native.Nat.{ℕ, _+_, _*_, _%_}
 use native.Mathlib.Omega.{arith}
 use lib.ListN.{getD}
-use Rattle.ranges.specs.Range.{one-if, listBelow}
+use Rattle.ranges.specs.Range.{one-if}
 use Rattle.bits.specs.Word.{cleared}
 use Rattle.geometry.specs.declared.Geometry.{Geometry}
 use Rattle.geometry.specs.Geometry.{sectorWords}
-use Rattle.geometry.specs.Places.{place, leastWord, greatestWord, mapWord, entryWord, contentWord}
+use Rattle.geometry.specs.Places.{place, mapWord, entryWord, contentWord}
 use Rattle.image.specs.declared.Found.{Found}
 use Rattle.image.specs.declared.Found.the-variants.{At, Nothing}
 use Rattle.image.specs.Words.{Image, freeMap}
 use Rattle.image.specs.Slots.{validBit, currentBit, find}
 use Rattle.image.specs.Blocks.{full}
-use Rattle.flash.specs.Steps.{Step, Program, Erase, run, wordsIn, erasuresIn}
-use Rattle.flash.specs.Placing.{entryAt, programsEntry, takesSlot, outdates, storesContents, beginsEntry, completesEntry, retires, leastLive, greatestLive, closesBlock, fillsSlot, placing, releasing}
+use Rattle.flash.specs.Steps.{Step, Program, run, wordsIn, erasuresIn}
+use Rattle.flash.specs.Placing.{entryAt, programsEntry, takesSlot, outdates, storesContents, beginsEntry, completesEntry, retires, closesBlock, fillsSlot, placing, releasing}
 use Rattle.flash.proofs.Stores.{words-append, erasures-append, list-words, list-erasures}
 
 -- a number was found

@@ -1,20 +1,18 @@
 -- (a) to (f) of a placing: each step leaves the asked word, and what every word of the image is afterwards. Assumes nothing.
 use mathlib.Core.Path.{_≡_, refl, sym, ap, ap₂, _∙_}
-use mathlib.Core.Logic.{_≢_, _⊎_, inl, inr, ⊎-elim}
-use mathlib.Core.Bool.{Bool, true, false}
-use mathlib.Core.List.{List, [], _∷_, _++_}
-use Prim.Native.Nat.{ℕ, _+_, _-_, _*_, _/_, _%_, _^_, _<_, _≤_}
+use mathlib.Core.Logic.{_≢_}
+use mathlib.Core.List.{List, _++_}
+use Prim.Native.Nat.{ℕ, _+_, _/_, _%_, _^_, _<_}
 use native.Mathlib.Omega.{arith}
 use lib.ListN.{length, getD}
-use Rattle.ranges.specs.Range.{listBelow}
 use Rattle.bits.specs.Word.{ones, bit, cleared, programmed}
 use Rattle.bits.proofs.Clearing.{cleared-set, cleared-le}
 use Rattle.bits.proofs.Programming.{clearing-leaves, ones-leave}
 use Rattle.geometry.specs.declared.Geometry.{Geometry}
-use Rattle.geometry.specs.Geometry.{Limits, d, k, blockLength, sectorWords, managementSectors}
-use Rattle.geometry.specs.Places.{place, eraseWord, leastWord, greatestWord, mapWord, entryWord, contentWord}
-use Rattle.geometry.proofs.Laws.{logical-small, management-inside, management-fits, map-word-inside, map-covers, entry-word-inside, content-word-inside, content-word-after, content-word-injective}
-use Rattle.image.specs.declared.Slot.the-variants.{Free, Live, Dead, Faulty}
+use Rattle.geometry.specs.Geometry.{Limits, d, k, blockLength, sectorWords}
+use Rattle.geometry.specs.Places.{place, mapWord, entryWord, contentWord}
+use Rattle.geometry.proofs.Laws.{logical-small, management-inside, management-fits, map-word-inside, map-covers, entry-word-inside, content-word-inside, content-word-after}
+use Rattle.image.specs.declared.Slot.the-variants.{Free, Live}
 use Rattle.image.specs.declared.Found.{Found}
 use Rattle.image.specs.declared.Found.the-variants.{At, Nothing}
 use Rattle.image.specs.Words.{Image, Shaped, Words32, word, freeMap, entry, contents}
@@ -24,9 +22,9 @@ use Rattle.image.proofs.Reading.{word-inside, entry-inside, map-inside}
 use Rattle.image.proofs.Facts.{Sound}
 use Rattle.image.proofs.Finding.{LiveAt, found-live}
 use Rattle.image.proofs.Places.{apart, contents-at}
-use Rattle.flash.specs.Steps.{Step, Program, run, wordsIn}
+use Rattle.flash.specs.Steps.{Step, run}
 use Rattle.flash.specs.Placing.{entryAt, programsEntry, takesSlot, outdates, storesContents, beginsEntry, completesEntry, retires, fillsSlot}
-use Rattle.flash.proofs.Stores.{Exact, lastAsked, run-append, words-append, last-append, last-here, last-other, last-list-here, last-list-other, exact-none, exact-one, exact-then, exact-list, list-words}
+use Rattle.flash.proofs.Stores.{Exact, lastAsked, run-append, last-here, last-other, last-list-here, last-list-other, exact-none, exact-one, exact-then, exact-list}
 
 -- ---- an entry programmed anew where a number was found
 

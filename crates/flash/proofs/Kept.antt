@@ -1,20 +1,20 @@
 -- What a placing keeps: the image stays sound, the map is the old one with n set, one slot fewer is free. Assumes nothing.
-use mathlib.Core.Path.{_≡_, refl, sym, ap, ap₂, _∙_}
+use mathlib.Core.Path.{_≡_, sym, ap, ap₂, _∙_}
 use mathlib.Core.Logic.{_≢_, _⊎_, inl, inr, ⊎-elim}
-use mathlib.Core.Bool.{Bool, true, false, not, true≢false, false≢true}
+use mathlib.Core.Bool.{true, false, not, true≢false}
 use mathlib.Core.List.{List}
-use mathlib.Core.Option.{Option, some, none}
-use Prim.Native.Nat.{ℕ, _+_, _*_, _<_, _≤_}
-use native.Mathlib.Decide.{decLt, ℕ-discrete}
+use mathlib.Core.Option.{some}
+use Prim.Native.Nat.{ℕ, _+_, _<_, _≤_}
+use native.Mathlib.Decide.{ℕ-discrete}
 use native.Mathlib.Omega.{arith}
-use lib.ListN.{length, getD}
-use Rattle.ranges.specs.Range.{one-if, sumBelow, anyBelow, firstBelow, lastBelow}
+use lib.ListN.{getD}
+use Rattle.ranges.specs.Range.{one-if, sumBelow, firstBelow, lastBelow}
 use Rattle.ranges.proofs.Tests.{any-of, any-ext}
 use Rattle.ranges.proofs.Sums.{sum-pairs-update}
 use Rattle.ranges.proofs.Searches.{first-before, last-after}
 use Rattle.bits.specs.Word.{ones}
 use Rattle.geometry.specs.declared.Geometry.{Geometry}
-use Rattle.geometry.specs.Geometry.{d, k, sectorWords}
+use Rattle.geometry.specs.Geometry.{d, sectorWords}
 use Rattle.geometry.proofs.Laws.{map-covers}
 use Rattle.image.specs.declared.Slot.{Slot}
 use Rattle.image.specs.declared.Slot.the-variants.{Free, Live, Dead, Faulty}
@@ -24,7 +24,7 @@ use Rattle.image.specs.Words.{Image, Words32, leastMapped, greatestMapped, mapB
 use Rattle.image.specs.Slots.{slot, isFree, isFaulty, isLiveFor, liveIn, find, mapOf}
 use Rattle.image.specs.Blocks.{full, freeSlots}
 use Rattle.image.proofs.Facts.{Sound, live-is-for, live-word}
-use Rattle.image.proofs.Finding.{LiveAt, found-live, live-found, map-at, map-same}
+use Rattle.image.proofs.Finding.{found-live, live-found, map-at, map-same}
 use Rattle.flash.specs.Placing.{leastLive, greatestLive}
 use Rattle.flash.proofs.Filling.{Ready, Target}
 use Rattle.flash.proofs.Placed.{Placed, Bounds}

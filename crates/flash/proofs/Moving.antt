@@ -1,14 +1,11 @@
 -- The copying of a reclaim, slot by slot: what is kept, what is where, and what it costs. Assumes nothing.
 use mathlib.Core.Path.{_≡_, refl, sym, ap, ap₂, _∙_}
-use mathlib.Core.Logic.{_≢_, _⊎_, inl, inr, ⊎-elim}
+use mathlib.Core.Logic.{_≢_, ⊎-elim}
 use mathlib.Core.Bool.{Bool, true, false, not, _&&_}
-use mathlib.Core.List.{List, [], _∷_, _++_}
-use mathlib.Core.Option.{Option, some}
-use Prim.Native.Nat.{ℕ, zero, suc, _+_, _*_, _^_, _<_, _≤_}
-use native.Mathlib.Nat.{lt-suc-self, le-step}
-use native.Mathlib.Decide.{decLt, ℕ-discrete}
+use mathlib.Core.List.{List, [], _++_}
+use Prim.Native.Nat.{ℕ, zero, suc, _+_, _*_, _<_, _≤_}
+use native.Mathlib.Decide.{ℕ-discrete}
 use native.Mathlib.Omega.{arith}
-use lib.ListN.{length}
 use Rattle.ranges.specs.Range.{one-if, sumBelow, countBelow}
 use Rattle.ranges.proofs.Tests.{below-suc, any-of}
 use Rattle.ranges.proofs.Sums.{sum-prefix}
@@ -17,8 +14,8 @@ use Rattle.geometry.specs.Geometry.{d}
 use Rattle.image.specs.declared.Slot.{Slot}
 use Rattle.image.specs.declared.Slot.the-variants.{Free, Live, Dead, Faulty}
 use Rattle.image.specs.declared.Found.{Found}
-use Rattle.image.specs.declared.Found.the-variants.{At, Nothing}
-use Rattle.image.specs.Words.{Image, Shaped, Words32, eraseCount, contents}
+use Rattle.image.specs.declared.Found.the-variants.{At}
+use Rattle.image.specs.Words.{Image, Words32, eraseCount, contents}
 use Rattle.image.specs.Slots.{slot, isFree, isLive, find, mapOf}
 use Rattle.image.specs.Blocks.{full}
 use Rattle.image.proofs.Facts.{Sound, live-word}
@@ -27,11 +24,11 @@ use Rattle.image.proofs.Places.{contents-long, contents-words}
 use Rattle.flash.specs.Steps.{Step, run, wordsIn, erasuresIn, leavesAsked}
 use Rattle.flash.specs.Placing.{placing}
 use Rattle.flash.specs.Writing.{Copied, copiedSlot, copying}
-use Rattle.flash.proofs.Stores.{run-append, run-none, asked-append, words-append, erasures-append}
+use Rattle.flash.proofs.Stores.{run-append, asked-append, words-append, erasures-append}
 use Rattle.flash.proofs.Counts.{isAt, placing-erasures}
 use Rattle.flash.proofs.Filling.{Ready, Target}
 use Rattle.flash.proofs.Placed.{Placed, Bounds, placing-exact, placing-placed, placing-bounds, placing-cost, placing-shaped, placing-words32}
-use Rattle.flash.proofs.Kept.{free-not-live, dead-not-live, faulty-not-live, same-number, free-as-before, live-before, only-here, placed-sound, placed-here, placed-other}
+use Rattle.flash.proofs.Kept.{free-not-live, dead-not-live, faulty-not-live, free-as-before, live-before, only-here, placed-sound, placed-here, placed-other}
 
 -- a place in an image differs from another that differs in its block or its slot
 other-place : {b c i j : ℕ} → (b ≡ c → i ≡ j → ⊥) → At b i ≡ At c j → ⊥

@@ -1,9 +1,9 @@
 -- A whole placing, (a) to (g): what it leaves of each reading of the image. Assumes nothing.
 use mathlib.Core.Path.{_≡_, refl, sym, ap, ap₂, _∙_}
-use mathlib.Core.Logic.{_≢_, _⊎_, inl, inr, ⊎-elim}
-use mathlib.Core.Bool.{Bool, true, false, not, cond, true≢false}
+use mathlib.Core.Logic.{_≢_}
+use mathlib.Core.Bool.{Bool, true, false, not}
 use mathlib.Core.List.{List, [], _∷_, _++_}
-use Prim.Native.Nat.{ℕ, _+_, _-_, _*_, _/_, _%_, _^_, _<_, _≤_}
+use Prim.Native.Nat.{ℕ, _+_, _*_, _%_, _^_, _<_, _≤_}
 use native.Mathlib.Decide.{ℕ-discrete}
 use native.Mathlib.Omega.{arith}
 use lib.Dec.{eqb}
@@ -11,18 +11,17 @@ use lib.ListN.{length, getD}
 use Rattle.ranges.specs.Range.{one-if}
 use Rattle.ranges.proofs.Tests.{any-of, any-ext}
 use Rattle.ranges.proofs.Searches.{best-le, best-ext}
-use Rattle.bits.specs.Word.{ones, bit, isSet, cleared, programmed}
+use Rattle.bits.specs.Word.{ones, isSet, cleared, programmed}
 use Rattle.bits.proofs.Bit.{clear-bit}
 use Rattle.bits.proofs.Clearing.{cleared-here, cleared-other}
 use Rattle.bits.proofs.Programming.{ones-leave}
 use Rattle.geometry.specs.declared.Geometry.{Geometry}
-use Rattle.geometry.specs.Geometry.{Limits, d, k, blockLength, sectorWords, managementSectors}
+use Rattle.geometry.specs.Geometry.{Limits, d, k, blockLength, sectorWords}
 use Rattle.geometry.specs.Places.{place, eraseWord, leastWord, greatestWord, mapWord, entryWord, contentWord}
-use Rattle.geometry.proofs.Laws.{d-small, k-small, logical-small, management-inside, management-fits, map-word-inside, map-covers, entry-word-inside, content-word-inside, content-word-after, content-word-injective}
-use Rattle.image.specs.declared.Slot.{Slot}
-use Rattle.image.specs.declared.Slot.the-variants.{Free, Live, Dead, Faulty}
+use Rattle.geometry.proofs.Laws.{logical-small, management-inside, management-fits, map-word-inside, map-covers, entry-word-inside, content-word-inside, content-word-after, content-word-injective}
+use Rattle.image.specs.declared.Slot.the-variants.{Live, Dead}
 use Rattle.image.specs.declared.Found.{Found}
-use Rattle.image.specs.declared.Found.the-variants.{At, Nothing}
+use Rattle.image.specs.declared.Found.the-variants.{At}
 use Rattle.image.specs.Words.{Image, Shaped, Words32, word, eraseCount, leastMapped, greatestMapped, freeMap, mapBit, entry, contents}
 use Rattle.image.specs.Slots.{validBit, currentBit, slot, slotOf, isFree, isLiveFor, liveIn, find}
 use Rattle.image.specs.Blocks.{full}
@@ -35,7 +34,7 @@ use Rattle.flash.specs.Steps.{Step, Program, run, wordsIn}
 use Rattle.flash.specs.Placing.{leastLive, greatestLive, closesBlock, fillsSlot, placing}
 use Rattle.flash.proofs.Stores.{Exact, lastAsked, run-append, run-none, last-append, last-here, last-other, last-nothing, exact-none, exact-one, exact-then, run-words}
 use Rattle.flash.proofs.Counts.{isAt, placing-words, placing-erasures}
-use Rattle.flash.proofs.Filling.{NotEntry, Ready, Target, Elsewhere, fills-exact, filled-map, filled-entry, filled-content, filled-old, filled-elsewhere}
+use Rattle.flash.proofs.Filling.{Ready, Target, Elsewhere, fills-exact, filled-map, filled-entry, filled-content, filled-old, filled-elsewhere}
 
 -- What a placing leaves, by slots: n in slot i of block b, with the contents ws; its old slot dead; all else as it was. (Words 1 and 2
 -- are another matter: they are written where the block fills.)

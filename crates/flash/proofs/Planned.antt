@@ -1,12 +1,12 @@
 -- How a write goes about it, from what the code finds to the definitions. Assumes nothing.
-use mathlib.Core.Path.{_≡_, refl, sym, ap, _∙_}
+use mathlib.Core.Path.{_≡_, refl}
 use mathlib.Core.Bool.{Bool, true, false, not, cond, _&&_}
 use mathlib.Core.List.{List}
 use Prim.Native.Nat.{ℕ, _<_, _≤_}
 use native.Mathlib.Omega.{arith}
 use lib.Dec.{eqb}
 use borrow.Author.Tests.{eq-eqb, ne-eqb, eqb-false, not-true, not-false}
-use Rattle.ranges.specs.Range.{countBelow, firstBelow}
+use Rattle.ranges.specs.Range.{countBelow}
 use Rattle.ranges.proofs.Tests.{both-pass, any-at, any-of}
 use Rattle.ranges.proofs.Searches.{best-passes, best-some}
 use Rattle.geometry.specs.declared.Geometry.{Geometry}
@@ -16,7 +16,6 @@ use Rattle.image.specs.Slots.{slot, isFree}
 use Rattle.image.specs.Blocks.{blank, full, isOpen, lowestFree, lowestOpen, lessWorn, leastWornBlank, victim}
 use Rattle.image.specs.WellFormed.{ceiling, R6}
 use Rattle.image.proofs.Facts.{unless}
-use Rattle.flash.specs.declared.Plan.{Plan}
 use Rattle.flash.specs.declared.Plan.the-variants.{Fill, Reclaim, Worn}
 use Rattle.flash.specs.Placing.{placing}
 use Rattle.flash.specs.Writing.{anyOpen, filling, mustReclaim, reclaimingFirst, writing, planned}

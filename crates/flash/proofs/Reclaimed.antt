@@ -1,26 +1,23 @@
 -- A whole reclaim: the live slots of v copied to the blank block t, then v erased. Assumes nothing.
 use mathlib.Core.Path.{_≡_, refl, sym, ap, ap₂, _∙_}
-use mathlib.Core.Logic.{_≢_, _⊎_, inl, inr, ⊎-elim}
-use mathlib.Core.Bool.{Bool, true, false, not, _&&_}
-use mathlib.Core.List.{List, [], _∷_, _++_}
-use Prim.Native.Nat.{ℕ, suc, _+_, _*_, _<_, _≤_}
+use mathlib.Core.Logic.{_≢_}
+use mathlib.Core.Bool.{true, false, _&&_}
+use mathlib.Core.List.{List, _++_}
+use Prim.Native.Nat.{ℕ, _+_, _*_, _<_, _≤_}
 use native.Mathlib.Omega.{arith}
-use Rattle.ranges.specs.Range.{one-if, sumBelow, countBelow}
 use Rattle.geometry.specs.declared.Geometry.{Geometry}
 use Rattle.geometry.specs.Geometry.{d}
-use Rattle.geometry.specs.Places.{place, eraseWord}
-use Rattle.image.specs.declared.Slot.{Slot}
-use Rattle.image.specs.declared.Slot.the-variants.{Free, Live, Dead, Faulty}
+use Rattle.image.specs.declared.Slot.the-variants.{Free, Live}
 use Rattle.image.specs.Words.{Image, eraseCount}
-use Rattle.image.specs.Slots.{slot, isFree, isLive, mapOf}
-use Rattle.image.specs.Blocks.{blank, liveSlots}
+use Rattle.image.specs.Slots.{slot, isFree, mapOf}
+use Rattle.image.specs.Blocks.{liveSlots}
 use Rattle.image.specs.WellFormed.{ceiling}
-use Rattle.flash.specs.Steps.{Step, Program, Erase, run, wordsIn, erasuresIn, leavesAsked}
+use Rattle.flash.specs.Steps.{Step, run, wordsIn, erasuresIn, leavesAsked}
 use Rattle.flash.specs.Writing.{Copied, copying, erasing}
 use Rattle.flash.proofs.Stores.{run-append, asked-append, words-append, erasures-append}
 use Rattle.flash.proofs.Filling.{Ready}
 use Rattle.flash.proofs.Moving.{Moved, moved}
-use Rattle.flash.proofs.Erased.{erasing-asked, wiped-count, wiped-count-other, wiped-slot, wiped-free, wiped-blank, wiped-map, wiped-ready}
+use Rattle.flash.proofs.Erased.{erasing-asked, wiped-count, wiped-count-other, wiped-slot, wiped-free, wiped-map, wiped-ready}
 
 -- what the reclaim of v into t leaves, by these steps
 pub record Reclaimed (geo : Geometry) (image : Image) (v t : ℕ) (steps : List Step) : Type 0 where

@@ -1,26 +1,25 @@
 -- A release: its one word, and what it leaves. Assumes nothing.
-use mathlib.Core.Path.{_≡_, refl, sym, ap, ap₂, _∙_}
-use mathlib.Core.Logic.{_≢_, _⊎_, inl, inr, ⊎-elim}
-use mathlib.Core.Bool.{Bool, true, false, not}
+use mathlib.Core.Path.{_≡_, sym, ap, ap₂, _∙_}
+use mathlib.Core.Logic.{_≢_}
+use mathlib.Core.Bool.{true, not}
 use mathlib.Core.List.{List}
-use mathlib.Core.Option.{Option, none}
-use Prim.Native.Nat.{ℕ, _+_, _*_, _%_, _^_, _<_, _≤_}
+use mathlib.Core.Option.{none}
+use Prim.Native.Nat.{ℕ, _+_, _*_, _%_, _^_, _<_}
 use native.Mathlib.Decide.{ℕ-discrete}
 use native.Mathlib.Omega.{arith}
-use lib.ListN.{length, getD}
+use lib.ListN.{getD}
 use Rattle.ranges.specs.Range.{one-if, sumBelow}
 use Rattle.ranges.proofs.Tests.{any-ext, all-ext}
 use Rattle.ranges.proofs.Sums.{sum-ext}
-use Rattle.bits.specs.Word.{isSet, cleared, programmed}
+use Rattle.bits.specs.Word.{isSet, cleared}
 use Rattle.bits.proofs.Programming.{clearing-leaves}
 use Rattle.geometry.specs.declared.Geometry.{Geometry}
-use Rattle.geometry.specs.Geometry.{Limits, d, k, blockLength, sectorWords}
+use Rattle.geometry.specs.Geometry.{Limits, d, k, blockLength}
 use Rattle.geometry.specs.Places.{place, eraseWord, leastWord, greatestWord, mapWord, entryWord, contentWord}
 use Rattle.geometry.proofs.Laws.{logical-small, management-inside, management-fits, map-word-inside, map-covers, entry-word-inside, content-word-inside, content-word-after}
-use Rattle.image.specs.declared.Slot.{Slot}
-use Rattle.image.specs.declared.Slot.the-variants.{Free, Live, Dead, Faulty}
+use Rattle.image.specs.declared.Slot.the-variants.{Live, Dead}
 use Rattle.image.specs.declared.Found.the-variants.{At}
-use Rattle.image.specs.Words.{Image, Shaped, Words32, word, eraseCount, leastMapped, greatestMapped, freeMap, mapBit, entry, contents}
+use Rattle.image.specs.Words.{Image, Shaped, word, eraseCount, leastMapped, greatestMapped, freeMap, mapBit, entry, contents}
 use Rattle.image.specs.Slots.{validBit, slotOf, slot, isFree, isFaulty, find, mapOf}
 use Rattle.image.specs.Blocks.{blank, full, freeSlots}
 use Rattle.image.specs.WellFormed.{R6}
@@ -29,8 +28,8 @@ use Rattle.image.proofs.Reading.{entry-inside}
 use Rattle.image.proofs.Facts.{Sound, live-word}
 use Rattle.image.proofs.Finding.{LiveAt, found-live, none-found, map-nothing, map-same}
 use Rattle.image.proofs.Places.{apart, contents-at, contents-are, contents-long}
-use Rattle.flash.specs.Steps.{Step, Program, run, wordsIn, erasuresIn, leavesAsked}
-use Rattle.flash.specs.Placing.{entryAt, programsEntry, releasing}
+use Rattle.flash.specs.Steps.{Step, run, wordsIn, erasuresIn, leavesAsked}
+use Rattle.flash.specs.Placing.{programsEntry, releasing}
 use Rattle.flash.proofs.Stores.{Exact, last-here, last-other, exact-one, run-words}
 use Rattle.flash.proofs.Counts.{releasing-words, releasing-erasures}
 use Rattle.flash.proofs.Filling.{Ready}

@@ -1,22 +1,21 @@
 -- A whole write, by rules 1 and 2 and by rule 3: what it leaves, what it costs and what it pays. Assumes nothing.
 use mathlib.Core.Path.{_≡_, refl, sym, ap, ap₂, _∙_}
-use mathlib.Core.Logic.{_≢_, _⊎_, inl, inr, ⊎-elim}
-use mathlib.Core.Bool.{Bool, true, false, not, _&&_, true≢false}
-use mathlib.Core.List.{List, [], _∷_, _++_}
-use mathlib.Core.Option.{Option, some}
-use Prim.Native.Nat.{ℕ, zero, suc, _+_, _*_, _<_, _≤_}
+use mathlib.Core.Logic.{_≢_}
+use mathlib.Core.Bool.{Bool, true, false, _&&_, true≢false}
+use mathlib.Core.List.{List, _++_}
+use mathlib.Core.Option.{some}
+use Prim.Native.Nat.{ℕ, _+_, _*_, _<_, _≤_}
 use native.Mathlib.Decide.{ℕ-discrete}
 use native.Mathlib.Omega.{arith}
 use lib.ListN.{length}
-use Rattle.ranges.specs.Range.{one-if, sumBelow, countBelow, anyBelow}
-use Rattle.ranges.proofs.Tests.{all-of, not-all, any-of, any-at, none-at}
-use Rattle.ranges.proofs.Sums.{sum-ext, sum-update, sum-update-two, one-if-le, count-one, count-positive, count-from, count-every}
+use Rattle.ranges.specs.Range.{one-if, sumBelow, countBelow}
+use Rattle.ranges.proofs.Tests.{all-of, not-all, any-of, any-at}
+use Rattle.ranges.proofs.Sums.{sum-ext, sum-update, sum-update-two, one-if-le, count-one, count-positive, count-from}
 use Rattle.ranges.proofs.Searches.{best-passes, best-some}
 use Rattle.geometry.specs.declared.Geometry.{Geometry}
 use Rattle.geometry.specs.Geometry.{Limits, d, g, sectorWords}
 use Rattle.geometry.proofs.Laws.{d-positive, g-positive, g-at-most-d}
 use Rattle.image.specs.declared.Slot.{Slot}
-use Rattle.image.specs.declared.Slot.the-variants.{Free, Live, Dead, Faulty}
 use Rattle.image.specs.Words.{Image, Words32, eraseCount}
 use Rattle.image.specs.Slots.{slot, isFree, find, mapOf}
 use Rattle.image.specs.Blocks.{blank, full, isOpen, freeSlots, liveSlots, deadSlots, lessWorn, leastWornBlank, preferred, victim}
@@ -25,14 +24,14 @@ use Rattle.image.proofs.Facts.{unless}
 use Rattle.image.proofs.Capacity.{block-parts, blank-free, full-free, shut-full, blank-not-full, free-is-a-block, victim-dead}
 use Rattle.flash.specs.Steps.{Step, run, wordsIn, erasuresIn, leavesAsked}
 use Rattle.flash.specs.Placing.{placing}
-use Rattle.flash.specs.Writing.{copying, erasing, filling, mustReclaim, reclaiming, reclaimingFirst, writing}
+use Rattle.flash.specs.Writing.{filling, mustReclaim, reclaiming, reclaimingFirst, writing}
 use Rattle.flash.proofs.Stores.{run-append, asked-append, words-append, erasures-append}
 use Rattle.flash.proofs.Counts.{isAt, placing-erasures}
 use Rattle.flash.proofs.Filling.{Ready, Target}
 use Rattle.flash.proofs.Placed.{Placed, placing-exact, placing-placed, placing-bounds, placing-cost, placing-shaped, placing-words32}
 use Rattle.flash.proofs.Kept.{free-as-before, placed-sound, placed-here, placed-other, placed-free}
 use Rattle.flash.proofs.Reclaimed.{Reclaimed, reclaimed}
-use Rattle.flash.proofs.Chosen.{Chosen, Choice, blank-slot, slots-blank, choice, reclaim-says}
+use Rattle.flash.proofs.Chosen.{Choice, blank-slot, slots-blank, choice, reclaim-says}
 
 -- the free slots of an image, and the sum of its erase counts
 abbrev pub freeIn : Geometry → Image → ℕ

@@ -1,7 +1,7 @@
 -- The two kinds of step, what each does to an image, and how many of each a list of steps has.
 use mathlib.Core.Bool.{Bool, true, _&&_}
 use mathlib.Core.List.{List, [], _∷_, _++_}
-use Prim.Native.Nat.{ℕ, suc, _+_}
+use Prim.Native.Nat.{ℕ, suc}
 use lib.Dec.{eqb}
 use lib.ListN.{set, take, drop, replicate}
 use Rattle.bits.specs.Word.{ones, programmed}

@@ -1,23 +1,22 @@
 -- How many slots are live, dead and free: at most L are live, so a victim has at least g dead slots. Assumes nothing.
-use mathlib.Core.Path.{_≡_, refl, sym, ap, _∙_}
-use mathlib.Core.Logic.{_≢_, _⊎_, inl, inr, ⊎-elim}
-use mathlib.Core.Bool.{Bool, true, false, not, _&&_, _||_, true≢false, false≢true}
-use Prim.Native.Nat.{ℕ, _+_, _-_, _*_, _^_, _<_, _≤_}
+use mathlib.Core.Path.{_≡_, refl, ap}
+use mathlib.Core.Logic.{⊎-elim}
+use mathlib.Core.Bool.{Bool, true, false, _&&_, true≢false}
+use Prim.Native.Nat.{ℕ, _+_, _-_, _*_, _<_, _≤_}
 use native.Mathlib.Nat.{mul-le-mul-left}
 use native.Mathlib.Omega.{arith}
 use lib.Dec.{eqb, ltb}
 use borrow.Author.Tests.{eq-eqb, eqb-true, ltb-true, ltb-false, not-true, not-false}
 use Rattle.ranges.specs.Range.{one-if, sumBelow, countBelow}
-use Rattle.ranges.proofs.Tests.{both-pass, either-passes, neither-passes, all-at, none-at, none-of}
-use Rattle.ranges.proofs.Sums.{sum-ext, sum-mono, sum-add, sum-const, sum-scale, sum-swap, sum-bound, term-le-sum, one-if-le, count-none, count-every, count-fails, count-pairs-at-most-one}
+use Rattle.ranges.proofs.Tests.{both-pass, either-passes, neither-passes, all-at, none-at}
+use Rattle.ranges.proofs.Sums.{sum-ext, sum-mono, sum-add, sum-const, sum-scale, sum-swap, sum-bound, term-le-sum, one-if-le, count-none, count-every, count-pairs-at-most-one}
 use Rattle.ranges.proofs.Searches.{best-most}
 use Rattle.geometry.specs.declared.Geometry.{Geometry}
-use Rattle.geometry.specs.Geometry.{Limits, roundedUp, d, room, g}
-use Rattle.geometry.specs.Places.{place, entryWord}
+use Rattle.geometry.specs.Geometry.{Limits, d, room, g}
 use Rattle.geometry.proofs.Laws.{d-positive, rounded-up-le}
 use Rattle.image.specs.declared.Slot.{Slot}
 use Rattle.image.specs.declared.Slot.the-variants.{Free, Live, Dead, Faulty}
-use Rattle.image.specs.Words.{Image, Words32, entry}
+use Rattle.image.specs.Words.{Image, Words32}
 use Rattle.image.specs.Slots.{slot, isFree, isLive, isDead, isFaulty, isLiveFor}
 use Rattle.image.specs.Blocks.{blank, full, isOpen, freeSlots, liveSlots, deadSlots, lessWorn, preferred, victim}
 use Rattle.image.proofs.Facts.{Sound, live-for, live-word}

@@ -1,15 +1,15 @@
 -- What an entry says of its slot: `slotOf`, from the word to the kind and back. Assumes nothing.
-use mathlib.Core.Path.{_≡_, refl, sym, ap, ap₂, _∙_}
-use mathlib.Core.Bool.{Bool, true, false, not, cond, _&&_, true≢false, false≢true}
+use mathlib.Core.Path.{_≡_, refl, sym, ap, _∙_}
+use mathlib.Core.Bool.{Bool, true, false, not, cond, _&&_}
 use Prim.Native.Nat.{ℕ, _+_, _/_, _%_, _^_, _<_, _≤_}
 use native.Mathlib.Omega.{arith}
 use lib.Dec.{eqb, ltb}
-use borrow.Author.Tests.{eq-eqb, ne-eqb, eqb-true, eqb-false, lt-ltb, le-ltb, ltb-true, ltb-false}
-use Rattle.bits.specs.Word.{ones, bit, isSet, cleared}
+use borrow.Author.Tests.{eq-eqb, ne-eqb, eqb-true, eqb-false, lt-ltb, le-ltb, ltb-true}
+use Rattle.bits.specs.Word.{ones, bit, cleared}
 use Rattle.bits.proofs.Clearing.{cleared-set}
 use Rattle.image.specs.declared.Slot.{Slot}
 use Rattle.image.specs.declared.Slot.the-variants.{Free, Live, Dead, Faulty}
-use Rattle.image.specs.Slots.{isFreeEntry, isComplete, numberIn, slotOf, isFree, isLive, isDead, isFaulty, isLiveWith, isLiveFor}
+use Rattle.image.specs.Slots.{isFreeEntry, isComplete, slotOf, isFree, isLiveFor}
 
 -- the one number of three bits whose upper two are set and whose lowest is clear
 six : (x : ℕ) → x < 8 → x / 4 % 2 ≡ 1 → x / 2 % 2 ≡ 1 → (x % 2 ≡ 1 → ⊥) → x ≡ 6

@@ -1,16 +1,14 @@
 -- R1 to R5 and R7 as facts about slots, and back: `sound` passes exactly where they hold. What a step keeps is shown of the facts.
 -- Assumes nothing.
 use mathlib.Core.Path.{_≡_, refl, sym, ap, _∙_}
-use mathlib.Core.Logic.{_⊎_, inl, inr, ⊎-elim}
-use mathlib.Core.Bool.{Bool, true, false, not, cond, Bool·beq, _&&_, _||_, true≢false, false≢true}
+use mathlib.Core.Bool.{Bool, true, false, not, Bool·beq, true≢false, false≢true}
 use Prim.Native.Nat.{ℕ, _+_, _*_, _-_, _<_, _≤_}
-use native.Mathlib.Decide.{decLt, ℕ-discrete}
+use native.Mathlib.Decide.{decLt}
 use native.Mathlib.Omega.{arith}
-use lib.Dec.{eqb, leb}
 use lib.ListN.{getD}
 use borrow.Author.Tests.{eq-eqb, eqb-true, le-leb, leb-true, not-true, not-false}
-use Rattle.ranges.specs.Range.{_implies_, allBelow, anyBelow}
-use Rattle.ranges.proofs.Tests.{passes-or-fails, both-pass, neither-passes, all-at, all-of, any-at, any-of, none-at, none-of}
+use Rattle.ranges.specs.Range.{_implies_, anyBelow}
+use Rattle.ranges.proofs.Tests.{both-pass, neither-passes, all-at, all-of, none-at, none-of}
 use Rattle.bits.specs.Word.{ones}
 use Rattle.geometry.specs.declared.Geometry.{Geometry}
 use Rattle.geometry.specs.Geometry.{d, k, sectorWords}
@@ -18,9 +16,9 @@ use Rattle.geometry.specs.Places.{place, entryWord}
 use Rattle.image.specs.declared.Slot.{Slot}
 use Rattle.image.specs.declared.Slot.the-variants.{Free, Live, Dead, Faulty}
 use Rattle.image.specs.Words.{Image, Words32, eraseCount, leastMapped, greatestMapped, mapBit, entry, contents}
-use Rattle.image.specs.Slots.{slot, isFree, isFreeEntry, isFaulty, isLiveWith, isLiveFor, liveIn}
+use Rattle.image.specs.Slots.{slot, isFree, isFaulty, isLiveWith, isLiveFor, liveIn}
 use Rattle.image.specs.Blocks.{full}
-use Rattle.image.specs.WellFormed.{ceiling, allOnes, mapAgrees, restSet, liveBefore, outOfBounds, boundsBlank, R1, R2, R3, R4, R5, R7, soundBlock, sound, MapsAgree}
+use Rattle.image.specs.WellFormed.{ceiling, allOnes, mapAgrees, restSet, liveBefore, outOfBounds, R1, R2, R3, R4, R5, R7, soundBlock, sound, MapsAgree}
 use Rattle.image.proofs.Entries.{live-entry}
 use Rattle.image.proofs.Reading.{map-says, map-rest, free-read}
 

@@ -1,8 +1,7 @@
 -- What `find` answers, and the map. Assumes nothing.
 use mathlib.Core.Path.{_≡_, refl, sym, ap, ap₂, _∙_}
 use mathlib.Core.Bool.{Bool, true, false, cond, true≢false}
-use mathlib.Core.List.{List}
-use mathlib.Core.Option.{Option, some, none}
+use mathlib.Core.Option.{some, none}
 use Prim.Native.Nat.{ℕ, _<_}
 use native.Mathlib.Omega.{arith}
 use Rattle.ranges.specs.Range.{anyBelow, firstBelow}
@@ -10,13 +9,12 @@ use Rattle.ranges.proofs.Tests.{any-at, any-of, none-at, none-of}
 use Rattle.ranges.proofs.Searches.{best-passes, best-some, first-is}
 use Rattle.geometry.specs.declared.Geometry.{Geometry}
 use Rattle.geometry.specs.Geometry.{d}
-use Rattle.image.specs.declared.Slot.{Slot}
-use Rattle.image.specs.declared.Slot.the-variants.{Free, Live, Dead, Faulty}
+use Rattle.image.specs.declared.Slot.the-variants.{Live}
 use Rattle.image.specs.declared.Found.{Found}
 use Rattle.image.specs.declared.Found.the-variants.{At, Nothing}
 use Rattle.image.specs.Words.{Image, contents}
 use Rattle.image.specs.Slots.{slot, isLiveFor, liveIn, find, mapOf}
-use Rattle.image.proofs.Facts.{Sound, live-for, live-is-for, unless}
+use Rattle.image.proofs.Facts.{Sound, live-for, live-is-for}
 
 -- what `At b i` says
 pub record LiveAt (geo : Geometry) (image : Image) (n b i : ℕ) : Type 0 where

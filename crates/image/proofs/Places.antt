@@ -1,17 +1,15 @@
 -- Which reading of an image a changed word can touch: two places are the same only if block and word in block are. Assumes nothing.
-use mathlib.Core.Path.{_≡_, refl, sym, ap, ap₂, _∙_}
+use mathlib.Core.Path.{_≡_, sym, ap, _∙_}
 use mathlib.Core.Logic.{_≢_}
-use mathlib.Core.Bool.{Bool}
 use mathlib.Core.List.{List}
-use Prim.Native.Nat.{ℕ, _+_, _*_, _/_, _%_, _^_, _<_, _≤_}
+use Prim.Native.Nat.{ℕ, _+_, _^_, _<_}
 use native.Mathlib.Decide.{decLt}
 use native.Mathlib.Omega.{arith}
-use lib.ListN.{length, getD, take, drop, length-take, length-drop, List·getD-eq-default}
+use lib.ListN.{length, getD, drop, length-take, length-drop, List·getD-eq-default}
 use lib.Seq.{getD-take, getD-drop, ext-getD}
-use Rattle.bits.specs.Word.{isSet}
 use Rattle.geometry.specs.declared.Geometry.{Geometry}
-use Rattle.geometry.specs.Geometry.{Limits, d, k, blockLength, sectorWords}
-use Rattle.geometry.specs.Places.{place, mapWord, entryWord, contentWord}
+use Rattle.geometry.specs.Geometry.{d, blockLength, sectorWords}
+use Rattle.geometry.specs.Places.{place, contentWord}
 use Rattle.geometry.proofs.Laws.{place-injective}
 use Rattle.image.specs.Words.{Image, Shaped, Words32, word, contents}
 use Rattle.image.proofs.Reading.{contents-inside}

@@ -1,18 +1,17 @@
 -- Where the code reads, and what the counts say of a block: laws that the functions of this crate share. Assumes nothing.
 use mathlib.Core.Path.{_≡_, refl, sym, ap, ap₂, _∙_}
 use mathlib.Core.Bool.{Bool, true, false, not, Bool·beq, _&&_}
-use Prim.Native.Nat.{ℕ, _+_, _*_, _-_, _/_, _%_, _<_, _≤_}
+use Prim.Native.Nat.{ℕ, _+_, _*_, _-_, _<_, _≤_}
 use native.Mathlib.Omega.{arith}
 use lib.Dec.{eqb}
 use lib.ListN.{length}
-use Rattle.ranges.specs.Range.{allBelow, anyBelow, countBelow}
 use Rattle.ranges.proofs.Tests.{both-pass, all-at}
 use Rattle.ranges.proofs.Sums.{all-count, any-count}
 use Rattle.geometry.specs.declared.Geometry.{Geometry}
 use Rattle.geometry.specs.Geometry.{d, k, blockLength, sectorWords}
 use Rattle.geometry.specs.Places.{place, entryWord, mapWord, contentWord}
 use Rattle.geometry.proofs.Laws.{block-inside, place-inside, management-inside, management-fits, entry-word-inside, map-word-inside, content-word-inside}
-use Rattle.image.specs.Words.{Image, Shaped, word, freeMap, mapBit, entry}
+use Rattle.image.specs.Words.{Image, Shaped, word, mapBit, entry}
 use Rattle.image.specs.Slots.{slotOf, slot, isFree, isFreeEntry}
 use Rattle.image.specs.Blocks.{blank, full, isOpen, freeSlots}
 use Rattle.image.specs.WellFormed.{mapAgrees, restSet, R2}

@@ -1,14 +1,14 @@
 -- The laws of `bestBelow`, and of the two searches that it serves: the first index, and the last. Assumes nothing.
 use Prim.Native.Nat.{ℕ, zero, suc, _≤_, _<_, suc-le-suc}
 use mathlib.Core.Path.{_≡_, refl, sym, ap, _∙_}
-use mathlib.Core.Logic.{_⊎_, inl, inr, ⊎-elim}
+use mathlib.Core.Logic.{⊎-elim}
 use mathlib.Core.Bool.{Bool, true, false, _&&_, cond, and-true, true≢false, false≢true}
 use native.Mathlib.Nat.{le-step, lt-suc-self, le-refl}
 use native.Mathlib.Omega.{arith}
 use lib.Dec.{ltb}
 use borrow.Author.Tests.{lt-ltb, le-ltb, ltb-true, ltb-false}
 use Rattle.ranges.specs.Range.{bestBelow, firstBelow, lastBelow}
-use Rattle.ranges.proofs.Tests.{below-suc, passes-or-fails}
+use Rattle.ranges.proofs.Tests.{below-suc}
 
 -- two numbers of which neither is below the other
 unless-apart : {x r : ℕ} → (x < r → ⊥) → (r < x → ⊥) → x ≡ r

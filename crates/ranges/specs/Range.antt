@@ -1,6 +1,6 @@
 -- Tests, sums, counts, lists and searches over 0, 1, .. m − 1. Each takes the last index off, as a loop that counts up adds it:
 -- the invariant of such a loop is the definition at the loop's index. Their laws are in proofs/.
-use mathlib.Core.Bool.{Bool, true, false, not, cond, _&&_, _||_}
+use mathlib.Core.Bool.{Bool, true, false, cond, _&&_, _||_}
 use mathlib.Core.List.{List, [], _∷_, _++_}
 use Prim.Native.Nat.{ℕ, zero, suc, _+_}
 use lib.Dec.{ltb}

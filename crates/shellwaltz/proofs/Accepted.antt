@@ -1,10 +1,9 @@
 -- What an accepted call says of what was handed in, and so what a write and a release leave. Assumes nothing.
-use mathlib.Core.Path.{_≡_, refl, sym, ap, _∙_}
-use mathlib.Core.Logic.{_≢_}
-use mathlib.Core.Bool.{Bool, true, false, not, _&&_, false≢true, true≢false}
+use mathlib.Core.Path.{_≡_, refl, sym, _∙_}
+use mathlib.Core.Bool.{true, false, not, _&&_, true≢false}
 use mathlib.Core.List.{List, []}
-use Prim.Native.Nat.{ℕ, _<_}
-use lib.Dec.{leb, eqb}
+use Prim.Native.Nat.{ℕ}
+use lib.Dec.{eqb}
 use lib.ListN.{length}
 use borrow.Author.Tests.{not-false, eqb-true, eq-eqb, leb-false}
 use Rattle.ranges.proofs.Tests.{both-pass}
@@ -16,14 +15,12 @@ use Rattle.image.specs.Words.{Image, Shaped, Words32, eraseCount}
 use Rattle.image.specs.Slots.{find}
 use Rattle.image.specs.Blocks.{victim}
 use Rattle.image.specs.WellFormed.{ceiling, R6, sound, wellFormed}
-use Rattle.image.proofs.Facts.{Sound, sound-facts, facts-sound}
-use Rattle.flash.specs.Steps.{Step, run}
+use Rattle.image.proofs.Facts.{sound-facts, facts-sound}
 use Rattle.flash.specs.Placing.{releasing}
 use Rattle.flash.specs.Writing.{mustReclaim, writing}
 use Rattle.flash.proofs.Filling.{Ready}
-use Rattle.flash.proofs.Written.{Wrote, Sector, writing-wrote}
+use Rattle.flash.proofs.Written.{Wrote, writing-wrote}
 use Rattle.flash.proofs.Released.{Released, releasing-released}
-use Rattle.shellwaltz.specs.declared.Answer.{Answer}
 use Rattle.shellwaltz.specs.declared.Answer.the-variants.{Accepted}
 use Rattle.shellwaltz.specs.Refusals.{formatRows, checkRows, readRows, writeRows, releaseRows, formatAnswer, checkAnswer, readAnswer, writeAnswer, releaseAnswer, isNothing}
 use Rattle.shellwaltz.specs.Calls.{writeSteps, releaseSteps}

@@ -1,19 +1,16 @@
 -- What a write and a release report and leave, by their answer: laws that the proofs of the two calls share. Assumes nothing.
-use mathlib.Core.Path.{_≡_, refl, sym, ap, _∙_}
+use mathlib.Core.Path.{_≡_, sym, ap, _∙_}
 use mathlib.Core.Logic.{_≢_}
 use mathlib.Core.List.{List, []}
 use Prim.Native.Nat.{ℕ}
 use Rattle.geometry.specs.declared.Geometry.{Geometry}
 use Rattle.image.specs.Words.{Image}
 use Rattle.flash.specs.Steps.{Step, run, wordsIn, erasuresIn}
-use Rattle.flash.specs.Placing.{releasing}
-use Rattle.flash.specs.Writing.{writing}
 use Rattle.flash.proofs.Stores.{run-none}
 use Rattle.shellwaltz.specs.declared.Answer.{Answer}
 use Rattle.shellwaltz.specs.declared.Answer.the-variants.{Accepted}
 use Rattle.shellwaltz.specs.declared.Outcome.{Outcome}
-use Rattle.shellwaltz.specs.Refusals.{writeAnswer, releaseAnswer}
-use Rattle.shellwaltz.specs.Calls.{ifAccepted, writeSteps, releaseSteps, outcome, writeOutcome, written, releaseOutcome, released}
+use Rattle.shellwaltz.specs.Calls.{ifAccepted, outcome}
 use Rattle.shellwaltz.proofs.Rows.{if-accepted, if-refused}
 
 -- a call whose steps are these where it is accepted, and none where it is refused

@@ -1,38 +1,34 @@
 -- The demands hold: each statement of specs/Demands.antt, from the laws below it. Assumes nothing.
-use mathlib.Core.Path.{_≡_, refl, sym, ap, ap₂, _∙_}
-use mathlib.Core.Logic.{_≢_}
+use mathlib.Core.Path.{_≡_, refl, sym, ap, _∙_}
 use mathlib.Core.Bool.{Bool, true, false, cond}
-use mathlib.Core.List.{List, []}
+use mathlib.Core.List.{[]}
 use mathlib.Core.Option.{some, none}
-use Prim.Native.Nat.{ℕ, _+_, _-_, _*_, _<_, _≤_}
+use Prim.Native.Nat.{ℕ, _+_, _-_, _*_, _<_}
 use native.Mathlib.Decide.{decLt}
 use native.Mathlib.Omega.{arith}
-use lib.ListN.{length, getD}
+use lib.ListN.{length}
 use lib.Seq.{getD-set-same, set-out}
 use Rattle.bits.specs.Word.{isSet, programmed}
 use Rattle.bits.proofs.Programming.{programmed-never-sets}
-use Rattle.geometry.specs.declared.Geometry.{Geometry}
-use Rattle.geometry.specs.Geometry.{d, g}
-use Rattle.geometry.proofs.Laws.{g-at-most-d}
+use Rattle.geometry.specs.Geometry.{d}
 use Rattle.image.specs.declared.Found.{Found}
 use Rattle.image.specs.declared.Found.the-variants.{At, Nothing}
-use Rattle.image.specs.Words.{Image, Words32, word, contents}
+use Rattle.image.specs.Words.{Image, word}
 use Rattle.image.specs.Slots.{find, mapOf}
 use Rattle.image.proofs.Finding.{map-at, map-nothing}
-use Rattle.flash.specs.Steps.{Step, run, wordsIn, erasuresIn}
+use Rattle.flash.specs.Steps.{run}
 use Rattle.flash.specs.Placing.{releasing}
 use Rattle.flash.specs.Writing.{writing}
 use Rattle.flash.proofs.Stores.{run-none}
-use Rattle.shellwaltz.specs.declared.Answer.{Answer}
 use Rattle.shellwaltz.specs.declared.Answer.the-variants.{Accepted, BadGeometry, BadBuffer, BadNumber, Malformed, Unmapped}
-use Rattle.shellwaltz.specs.Refusals.{formatRows, checkRows, reportRows, readRows, writeRows, releaseRows, formatAnswer, checkAnswer, reportAnswer, readAnswer, writeAnswer, releaseAnswer, row1, row2, row3, row4, row5, isNothing}
+use Rattle.shellwaltz.specs.Refusals.{formatRows, checkRows, reportRows, readRows, writeRows, releaseRows, formatAnswer, checkAnswer, reportAnswer, readAnswer, writeAnswer, releaseAnswer, row1, row2, row3, row4}
 use Rattle.shellwaltz.specs.Calls.{fresh, formatted, totalsOf, noTotals, reported, copiedFrom, readBuffer, writeSteps, releaseSteps, outcome}
-use Rattle.shellwaltz.specs.Runs.{State, ran, started}
+use Rattle.shellwaltz.specs.Runs.{ran, started}
 use Rattle.shellwaltz.specs.Demands.{Refusals, RefusedChangesNothing, ReadReturnsTheMap, WriteSetsOneSector, ReleaseRemovesOneSector, ProgrammingOnlyClears, StepsLeaveTheAskedWord, WriteBound, RunBound, RunBoundFromAny}
 use Rattle.shellwaltz.proofs.Rows.{in-order, if-accepted, if-refused}
 use Rattle.shellwaltz.proofs.Accepted.{check-accepted, format-accepted, read-accepted, formed-ready, ready-formed, write-steps, write-wrote, release-steps, release-blank, release-released}
 use Rattle.shellwaltz.proofs.Fresh.{fresh-ready, fresh-blank, fresh-frees, fresh-worn}
-use Rattle.shellwaltz.proofs.Running.{Good, Ran, runs}
+use Rattle.shellwaltz.proofs.Running.{runs}
 
 -- ---- Demand 1
 

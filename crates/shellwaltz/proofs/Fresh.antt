@@ -1,17 +1,15 @@
 -- What a format leaves: a well-formed image with an empty map, every slot free and no block erased. Assumes nothing.
 use mathlib.Core.Path.{_≡_, refl, sym, ap, _∙_}
 use mathlib.Core.Logic.{_≢_}
-use mathlib.Core.Bool.{Bool, true, false, not, _&&_}
-use mathlib.Core.List.{List}
+use mathlib.Core.Bool.{true, false, not}
 use mathlib.Core.Option.{none}
-use Prim.Native.Nat.{ℕ, zero, suc, _+_, _*_, _%_, _^_, _<_, _≤_}
-use native.Mathlib.Nat.{lt-suc-self, le-step}
+use Prim.Native.Nat.{ℕ, zero, suc, _*_, _%_, _^_, _<_, _≤_}
 use native.Mathlib.Decide.{decLt, ℕ-discrete}
 use native.Mathlib.Omega.{arith}
 use lib.ListN.{length, getD, set, replicate, length-set, length-replicate, getD-replicate, List·getD-eq-default}
 use lib.Seq.{getD-set-same, getD-set-other, set-out}
 use Rattle.ranges.specs.Range.{sumBelow}
-use Rattle.ranges.proofs.Tests.{below-suc, all-of, any-of}
+use Rattle.ranges.proofs.Tests.{all-of, any-of}
 use Rattle.ranges.proofs.Sums.{sum-ext, sum-const, sum-zero, count-every}
 use Rattle.bits.specs.Word.{ones, isSet}
 use Rattle.bits.proofs.Bit.{set-bit, ones-bit}
@@ -19,8 +17,8 @@ use Rattle.geometry.specs.declared.Geometry.{Geometry}
 use Rattle.geometry.specs.Geometry.{Limits, d, k, blockLength, imageLength, sectorWords}
 use Rattle.geometry.specs.Places.{place, eraseWord, leastWord, greatestWord, mapWord, entryWord, contentWord}
 use Rattle.geometry.proofs.Laws.{d-positive, place-inside, management-inside, management-fits, map-word-inside, map-covers, entry-word-inside, content-word-inside, content-word-after}
-use Rattle.image.specs.declared.Slot.the-variants.{Free, Live}
-use Rattle.image.specs.Words.{Image, Shaped, Words32, word, eraseCount, leastMapped, greatestMapped, freeMap, mapBit, entry, contents}
+use Rattle.image.specs.declared.Slot.the-variants.{Free}
+use Rattle.image.specs.Words.{Image, Shaped, Words32, word, eraseCount, leastMapped, greatestMapped, freeMap, mapBit, entry}
 use Rattle.image.specs.Slots.{slotOf, slot, isFree, isFaulty, mapOf}
 use Rattle.image.specs.Blocks.{blank, full, freeSlots}
 use Rattle.image.specs.WellFormed.{R6, sound, wellFormed}

@@ -1,7 +1,6 @@
 -- A run: what each call pays in free slots, and so how many erasures a run can make. Assumes nothing.
-use mathlib.Core.Path.{_≡_, refl, sym, ap, _∙_}
-use mathlib.Core.Logic.{_≢_}
-use mathlib.Core.Bool.{Bool, true, false}
+use mathlib.Core.Path.{_≡_, refl, ap, _∙_}
+use mathlib.Core.Bool.{true}
 use mathlib.Core.List.{List, [], _∷_}
 use Prim.Native.Nat.{ℕ, zero, suc, _+_, _-_, _*_, _≤_}
 use native.Mathlib.Omega.{arith}
@@ -9,20 +8,19 @@ use Rattle.geometry.specs.declared.Geometry.{Geometry}
 use Rattle.geometry.specs.Geometry.{d, g}
 use Rattle.image.specs.Words.{Image, Words32}
 use Rattle.image.specs.WellFormed.{R6}
-use Rattle.flash.specs.Steps.{Step, run, wordsIn, erasuresIn}
+use Rattle.flash.specs.Steps.{Step, run, erasuresIn}
 use Rattle.flash.specs.Placing.{releasing}
 use Rattle.flash.specs.Writing.{writing}
 use Rattle.flash.proofs.Filling.{Ready}
 use Rattle.flash.proofs.Stores.{run-none}
-use Rattle.flash.proofs.Written.{Wrote, freeIn, wornIn}
-use Rattle.flash.proofs.Released.{Released}
+use Rattle.flash.proofs.Written.{freeIn, wornIn}
 use Rattle.shellwaltz.specs.declared.Answer.{Answer}
 use Rattle.shellwaltz.specs.declared.Answer.the-variants.{Accepted, BadGeometry, BadBuffer, BadNumber, Malformed, Unmapped, WornOut}
 use Rattle.shellwaltz.specs.Refusals.{writeAnswer, releaseAnswer}
-use Rattle.shellwaltz.specs.Calls.{ifAccepted, writeSteps, releaseSteps, written, released}
+use Rattle.shellwaltz.specs.Calls.{writeSteps, releaseSteps}
 use Rattle.shellwaltz.specs.Runs.{Call, Check, Report, Read, Write, Release, State, called, ran, OfWords}
 use Rattle.shellwaltz.proofs.Rows.{if-accepted, if-refused}
-use Rattle.shellwaltz.proofs.Accepted.{write-steps, write-wrote, release-steps, release-released, release-blank}
+use Rattle.shellwaltz.proofs.Accepted.{write-steps, write-wrote, release-steps, release-released}
 
 -- an image that is well formed, of the right shape and of 32-bit words
 pub record Good (geo : Geometry) (image : Image) : Type 0 where

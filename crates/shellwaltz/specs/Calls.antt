@@ -1,5 +1,5 @@
 -- "What each call does": what it answers, reports and leaves, for every input, refused or not.
-use mathlib.Core.List.{List, [], _∷_}
+use mathlib.Core.List.{List, []}
 use Prim.Native.Nat.{ℕ, zero, suc}
 use lib.ListN.{set, replicate}
 use Rattle.ranges.specs.Range.{sumBelow}
@@ -19,7 +19,7 @@ use Rattle.shellwaltz.specs.declared.Answer.{Answer}
 use Rattle.shellwaltz.specs.declared.Answer.the-variants.{Accepted, BadGeometry, BadBuffer, BadNumber, Malformed, Unmapped, WornOut}
 use Rattle.shellwaltz.specs.declared.Outcome.{Outcome}
 use Rattle.shellwaltz.specs.declared.Totals.{Totals}
-use Rattle.shellwaltz.specs.Refusals.{formatAnswer, checkAnswer, reportAnswer, readAnswer, writeAnswer, releaseAnswer}
+use Rattle.shellwaltz.specs.Refusals.{formatAnswer, reportAnswer, readAnswer, writeAnswer, releaseAnswer}
 
 -- what a call gives where it is accepted, and what it gives where it is refused
 abbrev pub ifAccepted {ℓ} : {A : Type ℓ} → Answer → A → A → A

@@ -4,7 +4,7 @@ use mathlib.Core.Path.{_≡_}
 use mathlib.Core.Logic.{_≢_, _↔_}
 use mathlib.Core.Bool.{true, false}
 use mathlib.Core.List.{List, [], _∷_}
-use mathlib.Core.Option.{Option, some, none}
+use mathlib.Core.Option.{some, none}
 use Prim.Native.Nat.{ℕ, _+_, _-_, _*_, _≤_}
 use Rattle.ranges.specs.Range.{sumBelow}
 use Rattle.bits.specs.Word.{isSet}
@@ -20,7 +20,7 @@ use Rattle.flash.specs.Writing.{writing}
 use Rattle.shellwaltz.specs.declared.Answer.{Answer}
 use Rattle.shellwaltz.specs.declared.Answer.the-variants.{Accepted, Unmapped}
 use Rattle.shellwaltz.specs.Refusals.{Row, formatRows, checkRows, reportRows, readRows, writeRows, releaseRows, formatAnswer, checkAnswer, reportAnswer, readAnswer, writeAnswer, releaseAnswer}
-use Rattle.shellwaltz.specs.Calls.{formatOutcome, formatted, noTotals, reported, readBuffer, writeOutcome, written, releaseOutcome, released, fresh, outcome}
+use Rattle.shellwaltz.specs.Calls.{formatted, noTotals, reported, readBuffer, writeOutcome, written, releaseOutcome, released, outcome}
 use Rattle.shellwaltz.specs.Runs.{Call, OfWords, State, ran, started}
 
 -- ---- Demand 1. "Any geometry, image, number or buffer may be handed in. Nothing traps.": no public function of src/lib.rt has a

@@ -1,4 +1,4 @@
--- `image::blocks::count_blank` meets its contract: a block is blank exactly when its free slots are d, and each such block is counted.
+-- `blocks::count_blank` meets its contract: a block is blank exactly when its free slots are d, and each such block is counted.
 use mathlib.Core.Path.{_≡_, refl, ap, _∙_}
 use mathlib.Core.Logic.{⊎-elim}
 use Prim.Native.Nat.{_-_, _≤_}

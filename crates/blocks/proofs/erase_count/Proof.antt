@@ -1,4 +1,4 @@
--- `image::blocks::erase_count` meets its contract: it reads the word where the definition has it.
+-- `blocks::erase_count` meets its contract: it reads the word where the definition has it.
 use native.Mathlib.Omega.{arith}
 use borrow.Author.Needs.{needs}
 use Rattle.image.specs.Words.{eraseCount}

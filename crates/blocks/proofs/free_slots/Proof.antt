@@ -1,4 +1,4 @@
--- `image::blocks::free_slots` meets its contract: the set bits of the map's words are the free slots and, by R2, the bits from d on.
+-- `blocks::free_slots` meets its contract: the set bits of the map's words are the free slots and, by R2, the bits from d on.
 use mathlib.Core.Path.{_≡_, refl, _∙_}
 use Prim.Native.Nat.{_+_, _*_, _-_, _<_, _≤_}
 use native.Mathlib.Numerals.{add-one}

@@ -1,4 +1,4 @@
--- `image::blocks::least_worn_blank` meets its contract: `best` is the definition's answer for the blocks passed.
+-- `blocks::least_worn_blank` meets its contract: `best` is the definition's answer for the blocks passed.
 use mathlib.Core.Path.{_≡_, refl, sym, ap, ap₂, _∙_}
 use mathlib.Core.Bool.{_&&_}
 use mathlib.Core.Logic.{⊎-elim}

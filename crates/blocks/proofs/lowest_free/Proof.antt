@@ -1,5 +1,5 @@
--- `image::blocks::lowest_free` meets its contract: no map bit before the one found is set, and by R2 the map says which slots are free.
-use mathlib.Core.Path.{_≡_, sym, ap, _∙_}
+-- `blocks::lowest_free` meets its contract: no map bit before the one found is set, and by R2 the map says which slots are free.
+use mathlib.Core.Path.{_≡_, sym}
 use mathlib.Core.Bool.{false}
 use Prim.Native.Nat.{ℕ, _+_, _-_, _<_, _≤_}
 use native.Mathlib.Omega.{arith}

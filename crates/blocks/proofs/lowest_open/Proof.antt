@@ -1,4 +1,4 @@
--- `image::blocks::lowest_open` meets its contract: a block is open exactly when some of its slots are free and not all d are.
+-- `blocks::lowest_open` meets its contract: a block is open exactly when some of its slots are free and not all d are.
 use mathlib.Core.Path.{_≡_, sym}
 use mathlib.Core.Logic.{⊎-elim}
 use mathlib.Core.Bool.{false}

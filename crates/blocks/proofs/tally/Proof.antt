@@ -1,4 +1,4 @@
--- `image::blocks::tally` meets its contract: each of the three counts is the definition's over the slots passed.
+-- `blocks::tally` meets its contract: each of the three counts is the definition's over the slots passed.
 use mathlib.Core.Bool.{Bool}
 use mathlib.Core.Path.{_≡_, refl, ap, _∙_}
 use mathlib.Core.Logic.{⊎-elim}

@@ -1,4 +1,4 @@
--- `image::blocks::victim` meets its contract: of the blocks passed, `best` is the one that the definition leaves, and `most`
+-- `blocks::victim` meets its contract: of the blocks passed, `best` is the one that the definition leaves, and `most`
 -- its dead slots.
 use mathlib.Core.Bool.{true, false, _&&_}
 use mathlib.Core.Logic.{⊎-elim}

@@ -1,4 +1,4 @@
--- `flash::placing::close_block` meets its contract: where the tally has no free slot the block is full, and the two bounds are programmed.
+-- `placing::close_block` meets its contract: where the tally has no free slot the block is full, and the two bounds are programmed.
 use mathlib.Core.List.{[], _∷_}
 use mathlib.Core.Path.{_≡_, refl, sym, ap, _∙_}
 use Prim.Native.Nat.{_+_, _<_}

@@ -1,4 +1,4 @@
--- `flash::placing::entry_at` meets its contract: it reads the entry where the definition has it.
+-- `placing::entry_at` meets its contract: it reads the entry where the definition has it.
 use mathlib.Core.Path.{ap}
 use Prim.Native.Nat.{_+_, _<_}
 use native.Mathlib.Omega.{arith}

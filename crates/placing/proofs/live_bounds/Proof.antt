@@ -1,4 +1,4 @@
--- `flash::placing::live_bounds` meets its contract: the two bounds are the first and the last of the numbers that are live in the
+-- `placing::live_bounds` meets its contract: the two bounds are the first and the last of the numbers that are live in the
 -- slots passed.
 use mathlib.Core.Bool.{Bool, true, false, _||_, or-false}
 use mathlib.Core.Logic.{⊎-elim}

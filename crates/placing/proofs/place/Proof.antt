@@ -1,4 +1,4 @@
--- `flash::placing::place` meets its contract: each call leaves what one of the steps (a) to (g) leaves, and the words are counted.
+-- `placing::place` meets its contract: each call leaves what one of the steps (a) to (g) leaves, and the words are counted.
 use mathlib.Core.List.{List, [], _∷_}
 use mathlib.Core.Path.{_≡_, refl, _∙_}
 use Prim.Native.Nat.{ℕ, _+_, _*_, _^_, _<_, _≤_}

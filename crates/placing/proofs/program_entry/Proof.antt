@@ -1,4 +1,4 @@
--- `flash::placing::program_entry` meets its contract: it programs the entry where one was found, and else nothing.
+-- `placing::program_entry` meets its contract: it programs the entry where one was found, and else nothing.
 use mathlib.Core.Path.{refl}
 use Prim.Native.Nat.{_+_, _<_}
 use native.Mathlib.Omega.{arith}

@@ -1,4 +1,4 @@
--- `flash::placing::release` meets its contract: the entry programmed is the one where n is found, with bit 31 cleared.
+-- `placing::release` meets its contract: the entry programmed is the one where n is found, with bit 31 cleared.
 use borrow.Author.Needs.{needs}
 use Rattle.flash.specs.Placing.{releasing}
 use Rattle.flash.proofs.CodeLaws.{found-inside}

@@ -1,4 +1,4 @@
--- `flash::placing::store_contents` meets its contract: the image is the one that the steps of the words passed leave.
+-- `placing::store_contents` meets its contract: the image is the one that the steps of the words passed leave.
 use mathlib.Core.List.{List}
 use mathlib.Core.Path.{_≡_, refl, _∙_}
 use Prim.Native.Nat.{ℕ, _+_, _-_, _≤_}

@@ -1,4 +1,4 @@
--- `flash::placing::take_slot` meets its contract: it programs the map word of the slot, with the slot's bit cleared.
+-- `placing::take_slot` meets its contract: it programs the map word of the slot, with the slot's bit cleared.
 use mathlib.Core.Path.{_≡_, ap, _∙_}
 use Prim.Native.Nat.{ℕ, _+_, _/_, _%_, _<_}
 use native.Mathlib.Omega.{arith}

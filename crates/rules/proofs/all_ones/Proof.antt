@@ -1,4 +1,4 @@
--- `image::rules::all_ones` meets its contract: what all words passed have in common is ones exactly where each word is.
+-- `rules::all_ones` meets its contract: what all words passed have in common is ones exactly where each word is.
 use mathlib.Core.Path.{_≡_, refl, ap, _∙_}
 use mathlib.Core.Bool.{_&&_}
 use Prim.Native.Nat.{_-_, _≤_}

@@ -1,4 +1,4 @@
--- `image::rules::broken_rule` meets its contract: the rules are asked in their order, and the first that is broken is the answer.
+-- `rules::broken_rule` meets its contract: the rules are asked in their order, and the first that is broken is the answer.
 use mathlib.Core.Path.{_≡_, sym, _∙_}
 use mathlib.Core.Bool.{true}
 use native.Mathlib.Omega.{arith}

@@ -1,4 +1,4 @@
--- `image::rules::live_in_bounds` meets its contract: the live numbers passed lie between the two words, and the first that does not decides.
+-- `rules::live_in_bounds` meets its contract: the live numbers passed lie between the two words, and the first that does not decides.
 use mathlib.Core.Path.{_≡_, refl, sym, ap, ap₂, _∙_}
 use mathlib.Core.Logic.{⊎-elim}
 use mathlib.Core.Bool.{Bool, true, not, _&&_}

@@ -1,4 +1,4 @@
--- `image::rules::map_agrees` meets its contract: the test passes at every slot passed, and decides at the first where it fails.
+-- `rules::map_agrees` meets its contract: the test passes at every slot passed, and decides at the first where it fails.
 use mathlib.Core.Path.{_≡_, refl, sym, ap₂, _∙_}
 use mathlib.Core.Bool.{Bool, true, Bool·beq}
 use mathlib.Core.List.{List}

@@ -1,4 +1,4 @@
--- `image::rules::rest_set` meets its contract: each map bit from d on that was passed is set, and the first that is not decides.
+-- `rules::rest_set` meets its contract: each map bit from d on that was passed is set, and the first that is not decides.
 use mathlib.Core.Path.{_≡_, refl, sym, ap, _∙_}
 use mathlib.Core.Bool.{Bool, true}
 use mathlib.Core.List.{List}

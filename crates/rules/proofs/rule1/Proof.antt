@@ -1,4 +1,4 @@
--- `image::rules::rule1` meets its contract: it compares the erase count as the rule does.
+-- `rules::rule1` meets its contract: it compares the erase count as the rule does.
 use borrow.Author.Needs.{needs}
 use Rattle.image.specs.WellFormed.{R1}
 use Rattle.rules.proofs.rule1.Statement.{statement}

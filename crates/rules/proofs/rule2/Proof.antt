@@ -1,4 +1,4 @@
--- `image::rules::rule2` meets its contract: the rule is the two tests together, and the first that fails decides.
+-- `rules::rule2` meets its contract: the rule is the two tests together, and the first that fails decides.
 use borrow.Author.Needs.{needs}
 use borrow.Author.Tests.{not-true, not-false}
 use Rattle.image.specs.WellFormed.{R2}

@@ -1,4 +1,4 @@
--- `image::rules::rule3` meets its contract: the test passes at every slot passed, and the first free slot with a word that is not ones decides.
+-- `rules::rule3` meets its contract: the test passes at every slot passed, and the first free slot with a word that is not ones decides.
 use mathlib.Core.Path.{_≡_, refl, sym, _∙_}
 use mathlib.Core.Logic.{⊎-elim}
 use mathlib.Core.Bool.{true, false}

@@ -1,4 +1,4 @@
--- `image::rules::rule4` meets its contract: no slot passed is a fault, and the first that is decides.
+-- `rules::rule4` meets its contract: no slot passed is a fault, and the first that is decides.
 use mathlib.Core.Path.{_≡_, refl, sym, ap, _∙_}
 use mathlib.Core.Logic.{⊎-elim}
 use mathlib.Core.Bool.{true, not}

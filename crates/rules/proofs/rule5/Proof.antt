@@ -1,4 +1,4 @@
--- `image::rules::rule5` meets its contract: the marks know the numbers of all slots before this one, no number passed is live in an
+-- `rules::rule5` meets its contract: the marks know the numbers of all slots before this one, no number passed is live in an
 -- earlier slot, and the first that is decides.
 use mathlib.Core.Path.{_≡_, refl, sym, ap, _∙_}
 use mathlib.Core.Logic.{⊎-elim}

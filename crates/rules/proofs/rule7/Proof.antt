@@ -1,4 +1,4 @@
--- `image::rules::rule7` meets its contract: a block is full exactly when its free slots are 0, and each way tests what the rule asks there.
+-- `rules::rule7` meets its contract: a block is full exactly when its free slots are 0, and each way tests what the rule asks there.
 use mathlib.Core.Path.{_≡_, sym, ap, ap₂, _∙_}
 use mathlib.Core.Bool.{_&&_}
 use Prim.Native.Nat.{ℕ, _+_, _<_}

@@ -1,4 +1,4 @@
--- `image::rules::well_formed` meets its contract: the blocks passed are sound and the marks know their numbers; a block that is not
+-- `rules::well_formed` meets its contract: the blocks passed are sound and the marks know their numbers; a block that is not
 -- decides, and at the end R6 does.
 use mathlib.Core.Path.{_≡_, refl, sym, ap, _∙_}
 use mathlib.Core.Bool.{true}

@@ -1,22 +1,21 @@
 -- `shellwaltz::release` meets its contract: its tests are rows 1, 3, 4 and 5, asked in that order; row 5 applies where no word was programmed.
 use mathlib.Core.Path.{_≡_, refl, sym, ap, _∙_}
-use mathlib.Core.Bool.{Bool, true, false}
-use mathlib.Core.List.{List, []}
-use Prim.Native.Nat.{ℕ, _<_}
+use mathlib.Core.Bool.{false}
+use Prim.Native.Nat.{ℕ}
 use native.Mathlib.Omega.{arith}
 use borrow.Author.Needs.{needs}
-use borrow.Author.Tests.{le-leb, lt-leb, not-false}
+use borrow.Author.Tests.{le-leb, lt-leb}
 use Rattle.geometry.specs.declared.Geometry.{Geometry}
 use Rattle.image.specs.declared.Found.{Found}
 use Rattle.image.specs.declared.Found.the-variants.{At, Nothing}
-use Rattle.image.specs.Words.{Image, Shaped}
+use Rattle.image.specs.Words.{Image}
 use Rattle.image.specs.Slots.{find}
 use Rattle.ranges.specs.Range.{one-if}
-use Rattle.flash.specs.Steps.{run, wordsIn, erasuresIn}
+use Rattle.flash.specs.Steps.{wordsIn}
 use Rattle.flash.specs.Placing.{releasing}
 use Rattle.flash.proofs.Counts.{isAt, releasing-words, releasing-erasures}
 use Rattle.flash.proofs.Stores.{run-none}
-use Rattle.shellwaltz.specs.declared.Answer.the-variants.{Accepted, BadGeometry, BadNumber, Malformed, Unmapped}
+use Rattle.shellwaltz.specs.declared.Answer.the-variants.{BadGeometry, BadNumber, Malformed, Unmapped}
 use Rattle.shellwaltz.specs.Refusals.{row1, row4, isNothing, releaseAnswer}
 use Rattle.shellwaltz.specs.Calls.{releaseSteps}
 use Rattle.shellwaltz.proofs.CallLaws.{as-tested, shaped-left}

@@ -1,7 +1,6 @@
 -- `shellwaltz::write` meets its contract: its tests are rows 1, 2, 3, 4 and 6, asked in that order, and the plan says which steps are carried out.
-use mathlib.Core.Path.{_≡_, refl, sym, ap, _∙_}
-use mathlib.Core.Logic.{_≢_}
-use mathlib.Core.Bool.{Bool, true, false}
+use mathlib.Core.Path.{_≡_, sym, ap, _∙_}
+use mathlib.Core.Bool.{true, false}
 use mathlib.Core.List.{List, [], _∷_}
 use Prim.Native.Nat.{ℕ, _<_}
 use native.Mathlib.Omega.{arith}
@@ -16,10 +15,9 @@ use Rattle.image.proofs.Facts.{sound-maps}
 use Rattle.image.specs.Blocks.{victim}
 use Rattle.flash.specs.Steps.{run, wordsIn, erasuresIn}
 use Rattle.flash.specs.Writing.{reclaimingFirst}
-use Rattle.flash.specs.declared.Plan.the-variants.{Fill, Reclaim, Worn}
 use Rattle.flash.proofs.Planned.{plan-says, fill-says, worn-says, writing-fills, writing-reclaims, filling-erases-nothing}
-use Rattle.flash.proofs.Written.{Sector, victim-in, victim-reclaimable, reclaiming-once}
-use Rattle.shellwaltz.specs.declared.Answer.the-variants.{Accepted, BadGeometry, BadBuffer, BadNumber, Malformed, WornOut}
+use Rattle.flash.proofs.Written.{victim-in, victim-reclaimable, reclaiming-once}
+use Rattle.shellwaltz.specs.declared.Answer.the-variants.{BadGeometry, BadBuffer, BadNumber, Malformed, WornOut}
 use Rattle.shellwaltz.specs.Refusals.{firstThatApplies, row1, row6, writeAnswer}
 use Rattle.shellwaltz.specs.Calls.{writeSteps}
 use Rattle.shellwaltz.proofs.CallLaws.{as-tested, shaped-left, past-four}

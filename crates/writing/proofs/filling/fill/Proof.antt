@@ -1,11 +1,10 @@
 -- `writing::filling::fill` meets its contract: the block and the slot that it finds are those of rule 1, or of rule 2 where none is open.
-use mathlib.Core.Path.{_≡_, ap, _∙_}
-use Prim.Native.Nat.{_<_, _≤_}
+use mathlib.Core.Path.{ap, _∙_}
+use Prim.Native.Nat.{_<_}
 use native.Mathlib.Omega.{arith}
 use borrow.Author.Needs.{needs}
-use Rattle.geometry.specs.Geometry.{d}
 use Rattle.geometry.proofs.Laws.{d-positive}
-use Rattle.image.specs.Blocks.{lowestFree, lowestOpen}
+use Rattle.image.specs.Blocks.{lowestFree}
 use Rattle.flash.proofs.Planned.{open-slot, blank-block, filling-open, filling-blank}
 use Rattle.writing.proofs.filling.fill.Statement.{statement}
 use Rattle.writing.proofs.filling.fill.Tie as tie

@@ -1,4 +1,4 @@
--- `flash::writing::must_reclaim` meets its contract: a block is open where the lowest open one is a block, and else the blank ones count.
+-- `writing::filling::must_reclaim` meets its contract: a block is open where the lowest open one is a block, and else the blank ones count.
 use mathlib.Core.Path.{sym, ap, _∙_}
 use Prim.Native.Nat.{ℕ}
 use native.Mathlib.Omega.{arith}

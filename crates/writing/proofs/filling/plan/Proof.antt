@@ -1,4 +1,4 @@
--- `flash::writing::plan` meets its contract: each answer is the plan that the tests before it leave.
+-- `writing::filling::plan` meets its contract: each answer is the plan that the tests before it leave.
 use mathlib.Core.Path.{sym, ap, _∙_}
 use native.Mathlib.Omega.{arith}
 use borrow.Author.Needs.{needs}

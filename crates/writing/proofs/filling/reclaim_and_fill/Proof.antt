@@ -1,17 +1,15 @@
 -- `writing::filling::reclaim_and_fill` meets its contract: the victim is one that may be reclaimed, so that what the reclaim leaves is
 -- well formed and asks for no further reclaim.
-use mathlib.Core.Path.{_≡_, refl, sym, ap, _∙_}
+use mathlib.Core.Path.{_≡_, sym, ap, _∙_}
 use mathlib.Core.Bool.{true}
 use mathlib.Core.List.{List}
 use Prim.Native.Nat.{ℕ, _+_, _^_, _<_}
 use native.Mathlib.Omega.{arith}
-use lib.ListN.{length}
 use borrow.Author.Needs.{needs}
 use Rattle.ranges.proofs.Tests.{both-pass}
 use Rattle.geometry.specs.declared.Geometry.{Geometry}
 use Rattle.geometry.proofs.Laws.{d-small}
 use Rattle.image.specs.Words.{Image, Shaped, Words32}
-use Rattle.image.specs.Blocks.{leastWornBlank}
 use Rattle.image.specs.WellFormed.{R6, sound, wellFormed}
 use Rattle.image.proofs.Facts.{sound-facts, sound-maps}
 use Rattle.flash.specs.Steps.{run, wordsIn}

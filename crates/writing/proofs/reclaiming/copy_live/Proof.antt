@@ -1,4 +1,4 @@
--- `flash::reclaiming::copy_live` meets its contract: after the slots passed the image, the words and the slots taken are what the
+-- `writing::reclaiming::copy_live` meets its contract: after the slots passed the image, the words and the slots taken are what the
 -- definition's steps so far leave and count.
 use mathlib.Core.Logic.{⊎-elim}
 use mathlib.Core.List.{List}

@@ -1,4 +1,4 @@
--- `flash::reclaiming::reclaim` meets its contract: the copying, the erase and the count after it are the definition's steps.
+-- `writing::reclaiming::reclaim` meets its contract: the copying, the erase and the count after it are the definition's steps.
 use native.Mathlib.Omega.{arith}
 use Rattle.geometry.specs.Geometry.{d}
 use Rattle.image.proofs.Reading.{word-inside}
