@@ -11,16 +11,11 @@ use Rattle.geometry.specs.declared.Geometry.{Geometry}
 use Rattle.geometry.specs.Geometry.{d, k, blockLength, sectorWords}
 use Rattle.geometry.specs.Places.{place, entryWord, mapWord, contentWord}
 use Rattle.geometry.proofs.Laws.{block-inside, place-inside, management-inside, management-fits, entry-word-inside, map-word-inside, content-word-inside}
-use Rattle.image.specs.declared.Slot.{Slot}
 use Rattle.image.specs.Words.{Image, Shaped, word, mapBit, entry}
 use Rattle.image.specs.Slots.{slotOf, slot, isFree, isFreeEntry}
 use Rattle.image.specs.Blocks.{blank, full, isOpen, freeSlots}
 use Rattle.image.specs.WellFormed.{mapAgrees, restSet, R2}
 use Rattle.image.proofs.Entries.{free-test}
-
--- slot j of a block by the word that the code reads, where `base` is the place of the block's first entry
-abbrev pub slotFrom : Image → ℕ → ℕ → ℕ → Slot
-slotFrom image logical base j = slotOf logical (word image (base + j))
 
 module _ (geo : Geometry) (image : Image) where
   -- block b ends within the image

@@ -15,12 +15,17 @@ use Rattle.ranges.proofs.Searches.{best-le, best-ext, best-none}
 use Rattle.geometry.specs.Geometry.{d}
 use Rattle.image.specs.declared.Slot.{Slot}
 use Rattle.image.specs.declared.Slot.the-variants.{Live}
-use Rattle.image.specs.Slots.{isLiveFor, liveIn}
-use Rattle.image.proofs.Reading.{entry-inside, slotFrom, slot-read}
+use Rattle.image.specs.Words.{Image, word}
+use Rattle.image.specs.Slots.{slotOf, isLiveFor, liveIn}
+use Rattle.image.proofs.Reading.{entry-inside, slot-read}
 use Rattle.flash.specs.Placing.{leastLive, greatestLive}
 use Rattle.placing.proofs.BoundLaws.{orAt, first-more, last-one, last-more, live-below}
 use Rattle.placing.proofs.live_bounds.Statement.{statement}
 use Rattle.placing.proofs.live_bounds.Tie as tie
+
+-- slot j by the word that the code reads
+abbrev slotFrom : Image → ℕ → ℕ → ℕ → Slot
+slotFrom image logical entries j = slotOf logical (word image (entries + j))
 
 -- n is live in one of the first i slots
 abbrev liveAmong : (ℕ → Slot) → ℕ → ℕ → Bool
