@@ -19,7 +19,7 @@ use Rattle.geometry.proofs.Laws.{map-covers}
 use Rattle.image.specs.Words.{Image, Shaped, word, freeMap, mapBit}
 use Rattle.image.specs.Slots.{slot, isFree}
 use Rattle.image.specs.Blocks.{blank, isOpen, freeSlots, lowestFree}
-use Rattle.image.specs.WellFormed.{R2}
+use Rattle.image.specs.WellFormed.{R2, MapsAgree}
 use Rattle.image.proofs.Reading.{map-inside, map-says, map-rest, blank-count, open-count}
 
 module _ (geo : Geometry) (image : Image) (b base : ℕ) (starts : base ≡ place geo b (mapWord 0)) where
@@ -114,6 +114,11 @@ module _ (geo : Geometry) (image : Image) (b base : ℕ) (starts : base ≡ plac
   unfolding lowestFree
   lowest-none agrees m z none low h =
       best-none (λ i r. false) (d geo) _ (λ i l. none-before agrees m z none low i l (omega arith))
+
+-- what the count of a block's free slots asks, where all maps agree
+pub may-count : {geo : Geometry} {image : Image} {b : ℕ} →
+    Shaped geo image × MapsAgree geo image → b < geo .blocks → Shaped geo image × ((b < geo .blocks) × (R2 geo image b ≡ true))
+may-count {b = b} (shaped, maps) l = (shaped, (l, maps .agrees b l))
 
 -- blank and open by the two numbers that the code compares: a block's free slots, and d
 module _ (geo : Geometry) (image : Image) (b free slots : ℕ) (counts : free ≡ freeSlots geo image b) (size : slots ≡ d geo) where

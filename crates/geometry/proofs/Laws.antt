@@ -68,7 +68,7 @@ limits-fail geo fails = go (withinLimits geo) refl
     go false e = refl
 
 -- blocks times what one of them has, slots or words, does not wrap, whatever the three numbers are
-pub blocks-fit : (a b : ℕ) → a < 2 ^ 16 → b < 2 ^ 23 → a * b < 2 ^ 64
+pub blocks-fit : (a b : ℕ) → a < 2 ^ 32 → b < 2 ^ 23 → a * b < 2 ^ 64
 blocks-fit a b h l = omega (arith, mul-le-mul h l)
 
 -- a / b rounded up is at most c where c times b reaches a
@@ -173,6 +173,16 @@ module _ (geo : Geometry) (within : Limits geo) where
   -- the management words lie within the block
   pub management-inside : {j : ℕ} → j < sectorWords * managementSectors geo → j < blockLength geo
   management-inside h = omega arith
+
+  -- so do those before the entries, a map word among them, and the entries
+  pub low-in-block : {j : ℕ} → j < 3 + k geo → j < blockLength geo
+  low-in-block h = management-inside (omega (arith, management-fits))
+
+  pub map-in-block : {i : ℕ} → i < 32 * k geo → mapWord i < blockLength geo
+  map-in-block {i} h = low-in-block (map-word-inside {i = i} h)
+
+  pub entry-in-block : {i : ℕ} → i < d geo → entryWord geo i < blockLength geo
+  entry-in-block h = management-inside (entry-word-inside h)
 
   -- the contents of a slot lie within the block
   pub content-word-inside : {i j : ℕ} → i < d geo → j < sectorWords → contentWord geo i j < blockLength geo

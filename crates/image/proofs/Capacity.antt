@@ -1,15 +1,15 @@
 -- How many slots are live, dead and free: at most L are live, so a victim has at least g dead slots. Assumes nothing.
-use mathlib.Core.Path.{_≡_, refl, ap}
+use mathlib.Core.Path.{_≡_, refl, sym, ap, _∙_}
 use mathlib.Core.Logic.{⊎-elim}
 use mathlib.Core.Bool.{Bool, true, false, _&&_, true≢false}
 use Prim.Native.Nat.{ℕ, _+_, _-_, _*_, _<_, _≤_}
 use native.Mathlib.Nat.{mul-le-mul-left}
 use native.Mathlib.Omega.{arith}
 use lib.Dec.{eqb, ltb}
-use borrow.Author.Tests.{eq-eqb, eqb-true, ltb-true, ltb-false, not-true, not-false}
+use borrow.Author.Tests.{eq-eqb, eqb-true, ltb-true, ltb-false, not-false}
 use Rattle.ranges.specs.Range.{one-if, sumBelow, countBelow}
-use Rattle.ranges.proofs.Tests.{both-pass, either-passes, neither-passes, all-at, none-at}
-use Rattle.ranges.proofs.Sums.{sum-ext, sum-mono, sum-add, sum-const, sum-scale, sum-swap, sum-bound, term-le-sum, one-if-le, count-none, count-every, count-pairs-at-most-one}
+use Rattle.ranges.proofs.Tests.{both-pass, either-passes, neither-passes}
+use Rattle.ranges.proofs.Sums.{sum-ext, sum-mono, sum-add, sum-const, sum-scale, sum-swap, sum-bound, term-le-sum, one-if-le, count-pairs-at-most-one}
 use Rattle.ranges.proofs.Searches.{best-most}
 use Rattle.geometry.specs.declared.Geometry.{Geometry}
 use Rattle.geometry.specs.Geometry.{Limits, d, room, g}
@@ -19,6 +19,7 @@ use Rattle.image.specs.declared.Slot.the-variants.{Free, Live, Dead, Fau
 use Rattle.image.specs.Words.{Image, Words32}
 use Rattle.image.specs.Slots.{slot, isFree, isLive, isDead, isFaulty, isLiveFor}
 use Rattle.image.specs.Blocks.{blank, full, isOpen, freeSlots, liveSlots, deadSlots, lessWorn, preferred, victim}
+use Rattle.image.proofs.Reading.{blank-count, full-count}
 use Rattle.image.proofs.Facts.{Sound, live-for, live-word}
 
 -- each slot that is no fault is free, live or dead
@@ -87,12 +88,10 @@ module _ (geo : Geometry) (image : Image) (s : Sound geo image) where
   -- ---- a block that is not open is blank or full
 
   pub blank-free : (b : ℕ) → blank geo image b ≡ true → freeSlots geo image b ≡ d geo
-  unfolding blank
-  blank-free b t = count-every (d geo) (all-at (d geo) (λ i. isFree (slot geo image b i)) t)
+  blank-free b t = eqb-true (freeSlots geo image b) (d geo) (sym (blank-count geo image b) ∙ t)
 
   pub full-free : (b : ℕ) → full geo image b ≡ true → freeSlots geo image b ≡ 0
-  unfolding full
-  full-free b t = count-none (d geo) (none-at (d geo) (λ i. isFree (slot geo image b i)) (not-true _ t))
+  full-free b t = eqb-true (freeSlots geo image b) 0 (sym (full-count geo image b) ∙ t)
 
   pub shut-full : (b : ℕ) → isOpen geo image b ≡ false → blank geo image b ≡ false → full geo image b ≡ true
   shut-full b shut e = not-false (full geo image b) (rw e at shut)

@@ -60,24 +60,25 @@ module _ (l e : ℕ) (w : e < 2 ^ 32) where
 
 -- ---- and back: what a live slot's word is
 
-pub live-entry : (l e n : ℕ) → e < 2 ^ 32 → slotOf l e ≡ Live n → (e ≡ 0xC0000000 + n) × (n < l)
+pub live-parts : (l e n : ℕ) → slotOf l e ≡ Live n → (isComplete e ≡ true) × (e % 2 ^ 29 ≡ n) × (n < l)
 unfolding slotOf
-live-entry l e n w q = go (eqb e ones) (isComplete e) (ltb (e % 2 ^ 29) l) refl refl refl q
+live-parts l e n q = go (eqb e ones) (isComplete e) (ltb (e % 2 ^ 29) l) refl refl q
   where
     go :
         (f c t : Bool) →
-        eqb e ones ≡ f →
         isComplete e ≡ c →
         ltb (e % 2 ^ 29) l ≡ t →
         cond f Free (cond c (cond t (Live (e % 2 ^ 29)) Faulty) Dead) ≡ Live n →
-        (e ≡ 0xC0000000 + n) × (n < l)
-    go true c t p r h z = let x : _≡_ {A = ℕ} 0 1 = cc in absurd (omega arith)
-    go false false t p r h z = let x : _≡_ {A = ℕ} 0 1 = cc in absurd (omega arith)
-    go false true false p r h z = let x : _≡_ {A = ℕ} 0 1 = cc in absurd (omega arith)
-    go false true true p r h z =
-        let same : e % 2 ^ 29 ≡ n = cc in
-        let above = eqb-true (e / 2 ^ 29) 6 (sym (complete-is-6 e w) ∙ r) in
-        (omega arith, omega (arith, ltb-true (e % 2 ^ 29) l h))
+        (isComplete e ≡ true) × (e % 2 ^ 29 ≡ n) × (n < l)
+    go true c t r h z = let x : _≡_ {A = ℕ} 0 1 = cc in absurd (omega arith)
+    go false false t r h z = let x : _≡_ {A = ℕ} 0 1 = cc in absurd (omega arith)
+    go false true false r h z = let x : _≡_ {A = ℕ} 0 1 = cc in absurd (omega arith)
+    go false true true r h z = let same : e % 2 ^ 29 ≡ n = cc in (r, same, omega (arith, ltb-true (e % 2 ^ 29) l h))
+
+pub live-entry : (l e n : ℕ) → e < 2 ^ 32 → slotOf l e ≡ Live n → (e ≡ 0xC0000000 + n) × (n < l)
+live-entry l e n w q =
+    let parts = live-parts l e n q in
+    omega (arith, eqb-true (e / 2 ^ 29) 6 (sym (complete-is-6 e w) ∙ parts .0))
 
 pub free-entry : (l e : ℕ) → slotOf l e ≡ Free → e ≡ ones
 unfolding slotOf

@@ -8,7 +8,7 @@ use native.Mathlib.Omega.{arith}
 use lib.ListN.{getD}
 use borrow.Author.Tests.{eq-eqb, eqb-true, le-leb, leb-true, not-true, not-false}
 use Rattle.ranges.specs.Range.{_implies_, anyBelow}
-use Rattle.ranges.proofs.Tests.{both-pass, neither-passes, all-at, all-of, none-at, none-of}
+use Rattle.ranges.proofs.Tests.{unless, both-pass, neither-passes, all-at, all-of, none-at, none-of}
 use Rattle.bits.specs.Word.{ones}
 use Rattle.geometry.specs.declared.Geometry.{Geometry}
 use Rattle.geometry.specs.Geometry.{d, k, sectorWords}
@@ -84,10 +84,6 @@ pub record Sound (geo : Geometry) (image : Image) : Type 0 where
       (leastMapped geo image b ≤ n) × (n ≤ greatestMapped geo image b)
 
 -- ---- tests
-
-pub unless : (x : Bool) → (x ≡ true → ⊥) → x ≡ false
-unless true k = absurd (k refl)
-unless false k = refl
 
 beq-same : (x y : Bool) → x ≡ y → Bool·beq x y ≡ true
 beq-same true true e = refl

@@ -5,8 +5,8 @@ use mathlib.Core.Option.{some, none}
 use Prim.Native.Nat.{ℕ, _<_}
 use native.Mathlib.Omega.{arith}
 use Rattle.ranges.specs.Range.{anyBelow, firstBelow}
-use Rattle.ranges.proofs.Tests.{any-at, any-of, none-at, none-of}
-use Rattle.ranges.proofs.Searches.{best-passes, best-some, first-is}
+use Rattle.ranges.proofs.Tests.{any-of, none-at, none-of}
+use Rattle.ranges.proofs.Searches.{best-passes, best-any, first-is}
 use Rattle.geometry.specs.declared.Geometry.{Geometry}
 use Rattle.geometry.specs.Geometry.{d}
 use Rattle.image.specs.declared.Slot.the-variants.{Live}
@@ -40,11 +40,9 @@ module _ (geo : Geometry) (image : Image) where
           cond t (At (first-block n) (first-slot n (first-block n))) Nothing ≡ At b i →
           LiveAt geo image n b i
       go true t e =
-          let some-block = any-at (geo .blocks) (λ b. liveIn geo image b n) t in
-          let block = best-some (λ i r. false) (geo .blocks) (λ b. liveIn geo image b n) (some-block .1) (some-block .2) in
+          let block = best-any (λ i r. false) (geo .blocks) (λ b. liveIn geo image b n) t in
           let holds = best-passes (λ i r. false) (geo .blocks) (λ b. liveIn geo image b n) block in
-          let some-slot = any-at (d geo) (λ i. isLiveFor n (slot geo image (first-block n) i)) holds in
-          let inside = best-some (λ i r. false) (d geo) (λ i. isLiveFor n (slot geo image (first-block n) i)) (some-slot .1) (some-slot .2) in
+          let inside = best-any (λ i r. false) (d geo) (λ i. isLiveFor n (slot geo image (first-block n) i)) holds in
           let lives = best-passes (λ i r. false) (d geo) (λ i. isLiveFor n (slot geo image (first-block n) i)) inside in
           let eb : first-block n ≡ b = cc in
           let ei : first-slot n (first-block n) ≡ i = cc in
@@ -143,5 +141,3 @@ module _ (geo : Geometry) (image : Image) (n : ℕ) where
         first-is (geo .blocks) (λ c. liveIn geo image c n) b (omega arith) before (λ k. some),
         first-is (d geo) (λ j. isLiveFor n (slot geo image b j)) i (omega arith) earlier (λ k. here),
       )
-
--- "most dead slots; ties go to the least erase count": whether block b is preferred to block r

@@ -1,6 +1,6 @@
 -- Where the code reads, and what the counts say of a block: laws that the functions of this crate share. Assumes nothing.
 use mathlib.Core.Path.{_≡_, refl, sym, ap, ap₂, _∙_}
-use mathlib.Core.Bool.{Bool, true, false, not, Bool·beq, _&&_}
+use mathlib.Core.Bool.{Bool, true, false, not, Bool·beq, Bool·not-not, _&&_}
 use Prim.Native.Nat.{ℕ, _+_, _*_, _-_, _<_, _≤_}
 use native.Mathlib.Omega.{arith}
 use lib.Dec.{eqb}
@@ -10,12 +10,17 @@ use Rattle.ranges.proofs.Sums.{all-count, any-count}
 use Rattle.geometry.specs.declared.Geometry.{Geometry}
 use Rattle.geometry.specs.Geometry.{d, k, blockLength, sectorWords}
 use Rattle.geometry.specs.Places.{place, entryWord, mapWord, contentWord}
-use Rattle.geometry.proofs.Laws.{block-inside, place-inside, management-inside, management-fits, entry-word-inside, map-word-inside, content-word-inside}
+use Rattle.geometry.proofs.Laws.{block-inside, place-inside, map-in-block, entry-in-block, content-word-inside}
+use Rattle.image.specs.declared.Slot.{Slot}
 use Rattle.image.specs.Words.{Image, Shaped, word, mapBit, entry}
 use Rattle.image.specs.Slots.{slotOf, slot, isFree, isFreeEntry}
 use Rattle.image.specs.Blocks.{blank, full, isOpen, freeSlots}
 use Rattle.image.specs.WellFormed.{mapAgrees, restSet, R2}
 use Rattle.image.proofs.Entries.{free-test}
+
+-- slot j of a block by the word that the code reads, where `base` is the place of the block's first entry
+abbrev pub slotFrom : Image → ℕ → ℕ → ℕ → Slot
+slotFrom image logical base j = slotOf logical (word image (base + j))
 
 module _ (geo : Geometry) (image : Image) where
   -- block b ends within the image
@@ -27,14 +32,10 @@ module _ (geo : Geometry) (image : Image) where
   word-inside shaped l h = omega (arith, place-inside geo l h, shaped .long)
 
   pub entry-inside : Shaped geo image → {b i : ℕ} → b < geo .blocks → i < d geo → place geo b (entryWord geo i) < length image
-  entry-inside shaped l h =
-      word-inside shaped l (management-inside geo (shaped .limits) (entry-word-inside geo (shaped .limits) h))
+  entry-inside shaped l h = word-inside shaped l (entry-in-block geo (shaped .limits) h)
 
   pub map-inside : Shaped geo image → {b i : ℕ} → b < geo .blocks → i < 32 * k geo → place geo b (mapWord i) < length image
-  map-inside shaped l h =
-      word-inside shaped l
-      (management-inside geo (shaped .limits)
-      (omega (arith, map-word-inside geo (shaped .limits) h, management-fits geo (shaped .limits))))
+  map-inside shaped {i = i} l h = word-inside shaped l (map-in-block geo (shaped .limits) {i = i} h)
 
   pub contents-inside :
       Shaped geo image → {b i : ℕ} → b < geo .blocks → i < d geo → place geo b (contentWord geo i 0) + sectorWords ≤ length image
@@ -78,11 +79,7 @@ module _ (geo : Geometry) (image : Image) where
 
   pub full-count : (b : ℕ) → full geo image b ≡ eqb (freeSlots geo image b) 0
   unfolding full
-  full-count b = ap not (any-count (d geo) (λ i. isFree (slot geo image b i))) ∙ not-not (eqb (freeSlots geo image b) 0)
-    where
-      not-not : (x : Bool) → not (not x) ≡ x
-      not-not true = refl
-      not-not false = refl
+  full-count b = ap not (any-count (d geo) (λ i. isFree (slot geo image b i))) ∙ Bool·not-not (eqb (freeSlots geo image b) 0)
 
   pub open-count : (b : ℕ) → isOpen geo image b ≡ (not (eqb (freeSlots geo image b) (d geo)) && not (eqb (freeSlots geo image b) 0))
   open-count b = ap₂ (λ (x y : Bool). not x && not y) (blank-count b) (full-count b)

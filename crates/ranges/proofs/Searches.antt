@@ -1,46 +1,44 @@
 -- The laws of `bestBelow`, and of the two searches that it serves: the first index, and the last. Assumes nothing.
-use Prim.Native.Nat.{ℕ, zero, suc, _≤_, _<_, suc-le-suc}
+use Prim.Native.Nat.{ℕ, zero, suc, _+_, _≤_, _<_, suc-le-suc}
 use mathlib.Core.Path.{_≡_, refl, sym, ap, _∙_}
 use mathlib.Core.Logic.{⊎-elim}
 use mathlib.Core.Bool.{Bool, true, false, _&&_, cond, and-true, true≢false, false≢true}
 use native.Mathlib.Nat.{le-step, lt-suc-self, le-refl}
+use native.Mathlib.Numerals.{add-one}
 use native.Mathlib.Omega.{arith}
 use lib.Dec.{ltb}
 use borrow.Author.Tests.{lt-ltb, le-ltb, ltb-true, ltb-false}
-use Rattle.ranges.specs.Range.{bestBelow, firstBelow, lastBelow}
-use Rattle.ranges.proofs.Tests.{below-suc}
+use Rattle.ranges.specs.Range.{anyBelow, bestBelow, firstBelow, lastBelow}
+use Rattle.ranges.proofs.Tests.{below-suc, any-at}
 
 -- two numbers of which neither is below the other
 unless-apart : {x r : ℕ} → (x < r → ⊥) → (r < x → ⊥) → x ≡ r
 unless-apart {x} {r} below above = omega arith
 
 module _ (beats : ℕ → ℕ → Bool) where
-  -- ---- one index more: the four ways to go on
+  -- ---- one index more: the four ways to go on, where r is the best so far
 
   -- none so far, and the next passes
-  pub best-found : (m : ℕ) (f : ℕ → Bool) → bestBelow beats m f ≡ m → f m ≡ true → bestBelow beats (suc m) f ≡ m
+  pub best-found : (m : ℕ) (f : ℕ → Bool) {r : ℕ} → r ≡ bestBelow beats m f → m ≤ r → f m ≡ true → m ≡ bestBelow beats (m + 1) f
   unfolding bestBelow
-  best-found m f e t = rw (e, le-ltb m m (le-refl m), t)
+  best-found m f {r} e l t = rw (add-one, ← e, le-ltb r m l, t)
 
   -- none so far, nor the next
-  pub best-missing : (m : ℕ) (f : ℕ → Bool) → bestBelow beats m f ≡ m → f m ≡ false → bestBelow beats (suc m) f ≡ suc m
+  pub best-missing : (m : ℕ) (f : ℕ → Bool) {r : ℕ} → r ≡ bestBelow beats m f → m ≤ r → f m ≡ false → m + 1 ≡ bestBelow beats (m + 1) f
   unfolding bestBelow
-  best-missing m f e t = rw (e, le-ltb m m (le-refl m), t)
+  best-missing m f {r} e l t = rw (add-one, ← e, le-ltb r m l, t)
 
   -- the next passes and beats the best so far
   pub best-beaten :
-      (m : ℕ) (f : ℕ → Bool) → bestBelow beats m f < m → f m ≡ true → beats m (bestBelow beats m f) ≡ true → bestBelow beats (suc m) f ≡ m
+      (m : ℕ) (f : ℕ → Bool) {r : ℕ} → r ≡ bestBelow beats m f → r < m → f m ≡ true → beats m r ≡ true → m ≡ bestBelow beats (m + 1) f
   unfolding bestBelow
-  best-beaten m f l t b = rw (lt-ltb (bestBelow beats m f) m l, t, b)
+  best-beaten m f {r} e l t b = rw (add-one, ← e, lt-ltb r m l, t, b)
 
   -- the next fails, or does not beat it
   pub best-stays :
-      (m : ℕ) (f : ℕ → Bool) →
-      bestBelow beats m f < m →
-      (f m && beats m (bestBelow beats m f)) ≡ false →
-      bestBelow beats (suc m) f ≡ bestBelow beats m f
+      (m : ℕ) (f : ℕ → Bool) {r : ℕ} → r ≡ bestBelow beats m f → r < m → (f m && beats m r) ≡ false → r ≡ bestBelow beats (m + 1) f
   unfolding bestBelow
-  best-stays m f l b = rw (lt-ltb (bestBelow beats m f) m l, b)
+  best-stays m f {r} e l b = rw (add-one, ← e, lt-ltb r m l, b)
 
   -- what holds of the best so far, and of the next index where it passes, holds of the best
   -- (P is asked of an index that was found; none is found at m)
@@ -111,6 +109,10 @@ module _ (beats : ℕ → ℕ → Bool) where
       (λ m r p k e b i l t. omega arith)
       (λ m r p k b i l t. omega arith)
       m .0 i l t
+
+  -- so where the test of the range passes
+  pub best-any : (m : ℕ) (f : ℕ → Bool) → anyBelow m f ≡ true → bestBelow beats m f < m
+  best-any m f t = let found = any-at m f t in best-some m f (found .1) (found .2)
 
   pub best-none : (m : ℕ) (f : ℕ → Bool) → ((i : ℕ) → i < m → f i ≡ false) → bestBelow beats m f ≡ m
   best-none m f none =

@@ -9,7 +9,7 @@ use native.Mathlib.Omega.{arith}
 use lib.Dec.{eqb}
 use borrow.Author.Tests.{eq-eqb, ne-eqb, eqb-true, eqb-false}
 use Rattle.ranges.specs.Range.{one-if, sumBelow, countBelow, allBelow, anyBelow}
-use Rattle.ranges.proofs.Tests.{below-suc, all-at, all-of, none-at, none-of}
+use Rattle.ranges.proofs.Tests.{unless, below-suc, all-at, all-of, none-at, none-of}
 
 -- ---- terms that agree, or are ordered
 
@@ -297,12 +297,7 @@ all-count m f = go (eqb (countBelow m f) m) refl
   where
     go : (b : Bool) → eqb (countBelow m f) m ≡ b → allBelow m f ≡ b
     go true e = all-of m (count-passes m f (eqb-true (countBelow m f) m e))
-    go false e =
-        one-if-zero (allBelow m f) (zero-unless (allBelow m f) (λ t. eqb-false (countBelow m f) m e (count-every m (all-at m f t))))
-      where
-        zero-unless : (b : Bool) → (b ≡ true → ⊥) → one-if b ≡ 0
-        zero-unless true h = absurd (h refl)
-        zero-unless false h = refl
+    go false e = unless (allBelow m f) (λ t. eqb-false (countBelow m f) m e (count-every m (all-at m f t)))
 
 pub any-count : (m : ℕ) (f : ℕ → Bool) → anyBelow m f ≡ not (eqb (countBelow m f) 0)
 any-count m f = go (eqb (countBelow m f) 0) refl

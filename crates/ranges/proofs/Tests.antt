@@ -16,6 +16,11 @@ pub passes-or-fails : (b : Bool) → (b ≡ true) ⊎ (b ≡ false)
 passes-or-fails true = inl refl
 passes-or-fails false = inr refl
 
+-- and fails where it cannot pass
+pub unless : (b : Bool) → (b ≡ true → ⊥) → b ≡ false
+unless true k = absurd (k refl)
+unless false k = refl
+
 -- ---- two tests joined
 
 pub both-pass : (a b : Bool) → (a && b) ≡ true → (a ≡ true) × (b ≡ true)
@@ -46,8 +51,7 @@ all-of (suc m) h = rw (all-of m (λ i l. h i (le-step l))) (h m (lt-suc-self m))
 
 -- one index that fails
 pub not-all : (m : ℕ) (f : ℕ → Bool) {i : ℕ} → i < m → f i ≡ false → allBelow m f ≡ false
-not-all m f {i} l e =
-    ⊎-elim (λ t. absurd (true≢false (sym (all-at m f t i l) ∙ e))) (λ t. t) (passes-or-fails (allBelow m f))
+not-all m f {i} l e = unless (allBelow m f) (λ t. true≢false (sym (all-at m f t i l) ∙ e))
 
 pub all-fails : (m : ℕ) (f : ℕ → Bool) → allBelow m f ≡ false → (i : ℕ) × (i < m) × (f i ≡ false)
 unfolding allBelow
@@ -77,8 +81,7 @@ any-of (suc m) f {i} l e =
 
 -- no index
 pub none-at : (m : ℕ) (f : ℕ → Bool) → anyBelow m f ≡ false → (i : ℕ) → i < m → f i ≡ false
-none-at m f t i l =
-    ⊎-elim (λ e. absurd (true≢false (sym (any-of m f l e) ∙ t))) (λ e. e) (passes-or-fails (f i))
+none-at m f t i l = unless (f i) (λ e. true≢false (sym (any-of m f l e) ∙ t))
 
 pub none-of : (m : ℕ) {f : ℕ → Bool} → ((i : ℕ) → i < m → f i ≡ false) → anyBelow m f ≡ false
 unfolding anyBelow

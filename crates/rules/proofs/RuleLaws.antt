@@ -1,7 +1,7 @@
 -- What the check of an image goes by: tests over a block's slots, read as the code reads them. Assumes nothing.
 use mathlib.Core.List.{List}
-use mathlib.Core.Path.{_≡_, refl, sym, ap, _∙_}
-use mathlib.Core.Bool.{Bool, true, false, not, cond, _&&_, _||_, or-true, or-false, or-assoc, false≢true}
+use mathlib.Core.Path.{_≡_, refl, sym, ap, ap₂, _∙_}
+use mathlib.Core.Bool.{Bool, true, false, not, cond, _&&_, _||_, or-true, or-false, or-assoc}
 use Prim.Native.Nat.{ℕ, zero, suc, _+_, _*_, _-_, _/_, _%_, _<_, _≤_}
 use native.Mathlib.Numerals.{add-one}
 use native.Mathlib.Decide.{ℕ-discrete}
@@ -12,7 +12,7 @@ use lib.ListN.{length, getD, take, drop, set, replicate, length-set, length-repl
 use lib.Seq.{getD-set-same, getD-set-other}
 use borrow.Author.Tests.{eq-eqb, ne-eqb, eqb-true, eqb-false, lt-ltb}
 use Rattle.ranges.specs.Range.{_implies_, allBelow, anyBelow, countBelow}
-use Rattle.ranges.proofs.Tests.{all-at, not-all}
+use Rattle.ranges.proofs.Tests.{not-all}
 use Rattle.ranges.proofs.Sums.{any-count}
 use Rattle.bits.specs.Word.{ones, bit, isSet, cleared}
 use Rattle.bits.proofs.Bit.{set-bit, clear-bit, ones-bit}
@@ -25,7 +25,7 @@ use Rattle.image.specs.declared.Slot.the-variants.{Live}
 use Rattle.image.specs.Words.{Image, word, leastMapped, greatestMapped, freeMap, entry, contents}
 use Rattle.image.specs.Slots.{slot, isFree, isFreeEntry, isLiveWith, isLiveFor, liveIn}
 use Rattle.image.specs.Blocks.{blank}
-use Rattle.image.specs.WellFormed.{allOnes, liveBefore, R1, R2, R3, R4, R5, R6, R7, soundBlock, sound, wellFormed, brokenRule, MapsAgree}
+use Rattle.image.specs.WellFormed.{allOnes, liveBefore, R1, R2, R3, R4, R5, R6, R7, soundBlock, sound, wellFormed, brokenRule}
 use Rattle.rules.specs.Marks.{markWords, seen, Marks}
 use Rattle.image.proofs.Reading.{free-read}
 
@@ -47,14 +47,14 @@ and-ones a w h l = go (eqb a ones) (eqb w ones) refl refl
     go false t p q = ne-eqb (bitAnd a w) ones (λ r. eqb-false a ones p (omega (arith, and-le-l a w)))
 
 module _ (geo : Geometry) (image : Image) where
-  -- words 1 and 2 of a block, the map word of a slot, and its entry, by the place that the code reads
-  pub least-read : (b p : ℕ) → p ≡ place geo b leastWord → word image p ≡ leastMapped geo image b
-  unfolding leastMapped
-  least-read b p e = ap (word image) e
-
-  pub greatest-read : (b p : ℕ) → p ≡ place geo b greatestWord → word image p ≡ greatestMapped geo image b
-  unfolding greatestMapped
-  greatest-read b p e = ap (word image) e
+  -- a test of words 1 and 2 of a block, by the places that the code reads; the map word of a slot, and its entry
+  pub bounds-read :
+      (f : ℕ → ℕ → Bool) (b p q : ℕ) →
+      p ≡ place geo b leastWord →
+      q ≡ place geo b greatestWord →
+      f (word image p) (word image q) ≡ f (leastMapped geo image b) (greatestMapped geo image b)
+  unfolding leastMapped greatestMapped
+  bounds-read f b p q e e' = ap₂ (λ (x y : ℕ). f (word image x) (word image y)) e e'
 
   pub map-read : (b i p : ℕ) → p ≡ place geo b (mapWord i) → word image p ≡ freeMap geo image b i
   unfolding freeMap
@@ -193,16 +193,6 @@ module _ (geo : Geometry) (image : Image) where
       go true true true true false r₇ = refl
       go true true true true true false = refl
       go true true true true true true = refl
-
-  -- in an image of sound blocks every map agrees
-  pub sound-maps : sound geo image ≡ true → MapsAgree geo image
-  unfolding sound soundBlock
-  sound-maps s = record { agrees = λ b l. second (R1 geo image b) (R2 geo image b) (R3 geo image b) (R4 geo image b) (R5 geo image b) (R7 geo image b) (all-at (geo .blocks) _ s b l) }
-    where
-      second : (r₁ r₂ r₃ r₄ r₅ r₇ : Bool) → (r₁ && r₂ && r₃ && r₄ && r₅ && r₇) ≡ true → r₂ ≡ true
-      second true true r₃ r₄ r₅ r₇ e = refl
-      second true false r₃ r₄ r₅ r₇ e = e
-      second false r₂ r₃ r₄ r₅ r₇ e = absurd (false≢true e)
 
   -- one block that is not sound
   pub unsound-fails : (b : ℕ) → b < geo .blocks → soundBlock geo image b ≡ false → wellFormed geo image ≡ false

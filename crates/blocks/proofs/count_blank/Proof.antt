@@ -9,7 +9,7 @@ use borrow.Author.Tests.{eq-eqb, ne-eqb}
 use Rattle.ranges.specs.Range.{one-if, sumBelow, countBelow}
 use Rattle.ranges.proofs.Sums.{count-le}
 use Rattle.image.specs.Blocks.{blank}
-use Rattle.blocks.proofs.FreeMap.{blank-by}
+use Rattle.blocks.proofs.FreeMap.{may-count, blank-by}
 use Rattle.blocks.proofs.count_blank.Statement.{statement}
 use Rattle.blocks.proofs.count_blank.Tie as tie
 
@@ -30,9 +30,7 @@ unfolding sumBelow
 loop-holds c = (omega arith, refl)
 
 free-slots-requires : tie.Need-free-slots-requires Inv-loop μ-loop
-free-slots-requires c κs =
-    let start = c .before .before .before .before .before in
-    (start .pre .0, (omega arith, start .pre .1 .agrees (c .before .loop .b) (omega arith)))
+free-slots-requires c κs = may-count (c .before .before .before .before .before .pre) (omega arith)
 
 add-count : tie.Need-add-count Inv-loop μ-loop
 add-count c =
@@ -49,12 +47,14 @@ loop-again : tie.Need-loop-again Inv-loop μ-loop
 unfolding sumBelow
 loop-again c =
     let start = c .before .before .before .before .before .before .before in
+    let free = c .before .free-slots .result in
+    let slots = c .before .before .before .before .d .result in
     let is = blank-by (start .args .geo) (start .args .image .now) _ _ _ (c .before .free-slots .ensures) (c .before .before .before .before .d .ensures) in (
       omega arith,
       rw add-one
           (⊎-elim
-          (λ w. omega (arith, ap one-if (is ∙ eq-eqb _ _ (w .0 .taken))))
-          (λ w. omega (arith, ap one-if (is ∙ ne-eqb _ _ (w .0 .left))))
+          (λ w. omega (arith, ap one-if (is ∙ eq-eqb free slots (omega (arith, w .0 .taken)))))
+          (λ w. omega (arith, ap one-if (is ∙ ne-eqb free slots (omega (arith, w .0 .left)))))
           (c .if1 .came)),
     )
 

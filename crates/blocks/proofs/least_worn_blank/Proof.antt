@@ -1,17 +1,15 @@
 -- `blocks::least_worn_blank` meets its contract: `best` is the definition's answer for the blocks passed.
-use mathlib.Core.Path.{_≡_, refl, sym, ap, ap₂, _∙_}
-use mathlib.Core.Bool.{_&&_}
+use mathlib.Core.Path.{_≡_, refl, _∙_}
 use mathlib.Core.Logic.{⊎-elim}
 use Prim.Native.Nat.{_-_, _≤_}
 use native.Mathlib.Omega.{arith}
-use native.Mathlib.Numerals.{add-one}
 use borrow.Author.Tests.{lt-ltb, le-ltb}
 use borrow.Author.Needs.{needs}
 use Rattle.ranges.specs.Range.{bestBelow}
-use Rattle.ranges.proofs.Searches.{best-found, best-missing, best-beaten, best-stays, best-le}
+use Rattle.ranges.proofs.Searches.{best-found, best-missing, best-beaten, best-stays}
 use Rattle.image.specs.Words.{eraseCount}
 use Rattle.image.specs.Blocks.{blank, lessWorn, leastWornBlank}
-use Rattle.blocks.proofs.FreeMap.{blank-by}
+use Rattle.blocks.proofs.FreeMap.{may-count, blank-by}
 use Rattle.blocks.proofs.least_worn_blank.Statement.{statement}
 use Rattle.blocks.proofs.least_worn_blank.Tie as tie
 
@@ -32,9 +30,7 @@ unfolding bestBelow
 loop-holds c = (omega arith, refl)
 
 free-slots-requires : tie.Need-free-slots-requires Inv-loop μ-loop
-free-slots-requires c κs =
-    let start = c .before .before .before .before .before in
-    (start .pre .0, (omega arith, start .pre .1 .agrees (c .before .loop .b) (omega arith)))
+free-slots-requires c κs = may-count (c .before .before .before .before .before .pre) (omega arith)
 
 erase-count-requires : tie.Need-erase-count-requires Inv-loop μ-loop
 erase-count-requires c κs = search needs
@@ -55,30 +51,23 @@ loop-again : tie.Need-loop-again Inv-loop μ-loop
 loop-again c =
     let turn = c .before .before in
     let start = turn .before .before .before .before .before in
+    let l = turn .before .loop in
+    let v = l .inv .1 in
     let geo = start .args .geo in
     let image = start .args .image .now in
-    let l = turn .before .loop in
-    let is = blank-by geo image (l .b) _ _ (c .before .free-slots .ensures) (turn .before .before .d .ensures) in
     let wear = eraseCount geo image in
-    let so-far = bestBelow (lessWorn geo image) (l .b) (blank geo image) in
-    let most = best-le (lessWorn geo image) (l .b) (blank geo image) in
-    let same = ap wear (l .inv .1) in (
+    let is = blank-by geo image (l .b) _ _ (c .before .free-slots .ensures) (turn .before .before .d .ensures) in (
       omega arith,
-      rw add-one
+      ⊎-elim
+          (λ w. w .5 ∙ best-beaten _ _ _ v (w .0 .taken) (is ∙ w .1 .taken) (lt-ltb (wear (l .b)) (wear (l .best)) (omega arith)))
           (⊎-elim
-          (λ w.
-          let less = lt-ltb (wear (l .b)) (wear so-far) (omega arith) in
-          w .5 ∙ sym (best-beaten _ _ _ (omega arith) (is ∙ w .1 .taken) less))
+          (λ w. w .5 ∙ best-stays _ _ _ v (w .0 .taken) (rw (is ∙ w .1 .taken) (le-ltb (wear (l .b)) (wear (l .best)) (omega arith))))
           (⊎-elim
-          (λ w.
-          let more = le-ltb (wear (l .b)) (wear so-far) (omega arith) in
-          w .5 ∙ l .inv .1 ∙ sym (best-stays _ _ _ (omega arith) (ap₂ _&&_ (is ∙ w .1 .taken) more)))
+          (λ w. w .2 ∙ best-stays _ _ _ v (w .0 .taken) (rw (is ∙ w .1 .left)))
           (⊎-elim
-          (λ w. w .2 ∙ l .inv .1 ∙ sym (best-stays _ _ _ (omega arith) (rw (is ∙ w .1 .left))))
-          (⊎-elim
-          (λ w. w .2 ∙ sym (best-found _ _ _ (omega arith) (is ∙ w .1 .taken)))
-          (λ w. w .2 ∙ add-one _ ∙ sym (best-missing _ _ _ (omega arith) (is ∙ w .1 .left))))))
-          (c .if1 .came)),
+          (λ w. w .2 ∙ best-found _ _ _ v (w .0 .left) (is ∙ w .1 .taken))
+          (λ w. w .2 ∙ best-missing _ _ _ v (w .0 .left) (is ∙ w .1 .left)))))
+          (c .if1 .came),
     )
 
 returns : tie.Need-returns Inv-loop μ-loop

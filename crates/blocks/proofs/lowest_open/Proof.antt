@@ -8,7 +8,7 @@ use borrow.Author.Needs.{needs}
 use borrow.Author.Count.{below-more}
 use Rattle.ranges.proofs.Searches.{first-is}
 use Rattle.image.specs.Blocks.{isOpen, lowestOpen}
-use Rattle.blocks.proofs.FreeMap.{some-free, none-free, all-free}
+use Rattle.blocks.proofs.FreeMap.{may-count, some-free, none-free, all-free}
 use Rattle.blocks.proofs.lowest_open.Statement.{statement}
 use Rattle.blocks.proofs.lowest_open.Tie as tie
 
@@ -28,9 +28,7 @@ loop-holds : tie.Need-loop-holds Inv-loop μ-loop
 loop-holds c = (omega arith, λ i l. absurd (omega arith))
 
 free-slots-requires : tie.Need-free-slots-requires Inv-loop μ-loop
-free-slots-requires c κs =
-    let start = c .before .before .before .before .before in
-    (start .pre .0, (omega arith, start .pre .1 .agrees (c .before .loop .b) (omega arith)))
+free-slots-requires c κs = may-count (c .before .before .before .before .before .pre) (omega arith)
 
 returns : tie.Need-returns Inv-loop μ-loop
 unfolding lowestOpen

@@ -11,15 +11,10 @@ use Rattle.ranges.specs.Range.{one-if, sumBelow, countBelow}
 use Rattle.ranges.proofs.Sums.{count-ext}
 use Rattle.geometry.specs.Geometry.{d}
 use Rattle.image.specs.declared.Slot.{Slot}
-use Rattle.image.specs.Words.{Image, word}
-use Rattle.image.specs.Slots.{slotOf, slot, isFree, isLive, isDead}
-use Rattle.image.proofs.Reading.{entry-inside, slot-read}
+use Rattle.image.specs.Slots.{slot, isFree, isLive, isDead}
+use Rattle.image.proofs.Reading.{entry-inside, slotFrom, slot-read}
 use Rattle.blocks.proofs.tally.Statement.{statement}
 use Rattle.blocks.proofs.tally.Tie as tie
-
--- slot j by the word that the code reads
-abbrev slotFrom : Image → ℕ → ℕ → ℕ → Slot
-slotFrom image logical base j = slotOf logical (word image (base + j))
 
 abbrev Inv-loop : tie.InvT-loop
 Inv-loop image b d logical base free₀ live₀ dead₀ i₀ free live dead i =

@@ -5,12 +5,11 @@ use mathlib.Core.Logic.{⊎-elim}
 use mathlib.Core.Path.{_≡_, refl, sym, ap, _∙_}
 use Prim.Native.Nat.{ℕ, _+_, _-_, _<_, _≤_}
 use native.Mathlib.Omega.{arith}
-use native.Mathlib.Numerals.{add-one}
 use lib.Dec.{eqb}
 use borrow.Author.Needs.{needs}
 use borrow.Author.Tests.{lt-ltb, le-ltb}
 use Rattle.ranges.specs.Range.{bestBelow}
-use Rattle.ranges.proofs.Searches.{best-le, best-found, best-missing, best-beaten, best-stays}
+use Rattle.ranges.proofs.Searches.{best-found, best-missing, best-beaten, best-stays}
 use Rattle.geometry.specs.declared.Geometry.{Geometry}
 use Rattle.image.specs.declared.Tally.{Tally}
 use Rattle.image.specs.Words.{Image}
@@ -34,38 +33,16 @@ module _ {geo : Geometry} {image : Image} {b best most : ℕ} (chosen : Chosen g
       preferred geo image b best ≡ true →
       m ≡ deadSlots geo image b →
       Chosen geo image (b + 1) b m
-  beaten l t p e =
-      let before = chosen .best-is in
-      record {
-        best-is = rw add-one (sym (best-beaten (preferred geo image) b (full geo image) (rw before at l) t (rw before at p)));
-        most-is = λ k. e;
-      }
+  beaten l t p e = record { best-is = best-beaten _ _ _ (chosen .best-is) l t p; most-is = λ k. e }
 
   stays : best < b → (full geo image b && preferred geo image b best) ≡ false → Chosen geo image (b + 1) best most
-  stays l f =
-      let before = chosen .best-is in
-      record {
-        best-is = rw add-one (before ∙ sym (best-stays (preferred geo image) b (full geo image) (rw before at l) (rw before at f)));
-        most-is = λ k. chosen .most-is l;
-      }
-
-  -- the two where no block was found so far
-  none-yet : b ≤ best → bestBelow (preferred geo image) b (full geo image) ≡ b
-  none-yet l = omega (arith, chosen .best-is, best-le (preferred geo image) b (full geo image))
+  stays l f = record { best-is = best-stays _ _ _ (chosen .best-is) l f; most-is = λ k. chosen .most-is l }
 
   found : {m : ℕ} → b ≤ best → full geo image b ≡ true → m ≡ deadSlots geo image b → Chosen geo image (b + 1) b m
-  found l t e =
-      record {
-        best-is = rw add-one (sym (best-found (preferred geo image) b (full geo image) (none-yet l) t));
-        most-is = λ k. e;
-      }
+  found l t e = record { best-is = best-found _ _ _ (chosen .best-is) l t; most-is = λ k. e }
 
   missing : {m : ℕ} → b ≤ best → full geo image b ≡ false → Chosen geo image (b + 1) (b + 1) m
-  missing l f =
-      record {
-        best-is = rw add-one (sym (best-missing (preferred geo image) b (full geo image) (none-yet l) f));
-        most-is = λ k. absurd (omega arith);
-      }
+  missing l f = record { best-is = best-missing _ _ _ (chosen .best-is) l f; most-is = λ k. absurd (omega arith) }
 
 abbrev Inv-loop : tie.InvT-loop
 Inv-loop image geo blocks best₀ most₀ b₀ best most b = (b ≤ blocks) × Chosen geo image b best most

@@ -1,5 +1,5 @@
 -- `rules::live_in_bounds` meets its contract: the live numbers passed lie between the two words, and the first that does not decides.
-use mathlib.Core.Path.{_≡_, refl, sym, ap, ap₂, _∙_}
+use mathlib.Core.Path.{_≡_, refl, sym, ap, _∙_}
 use mathlib.Core.Logic.{⊎-elim}
 use mathlib.Core.Bool.{Bool, true, not, _&&_}
 use Prim.Native.Nat.{ℕ, _+_, _-_, _<_, _≤_}
@@ -19,7 +19,7 @@ use Rattle.image.specs.Words.{Image}
 use Rattle.image.specs.Slots.{slot, isLiveWith}
 use Rattle.image.specs.WellFormed.{outOfBounds}
 use Rattle.image.proofs.Reading.{word-inside, entry-inside, slot-read}
-use Rattle.rules.proofs.RuleLaws.{all-more, least-read, greatest-read}
+use Rattle.rules.proofs.RuleLaws.{all-more, bounds-read}
 use Rattle.rules.proofs.live_in_bounds.Statement.{statement}
 use Rattle.rules.proofs.live_in_bounds.Tie as tie
 
@@ -123,7 +123,7 @@ module _ (c : tie.After-slot-of Inv-loop μ-loop) where
   live-is : (n : ℕ) → c .slot-of .result ≡ Live n → here ≡ not (not (leb least n && leb n greatest))
   live-is n kind =
       test-is kind
-      ∙ sym (ap₂ (λ (l g : ℕ). not (not (leb l n && leb n g))) (least-read _ _ (start .args .b) _ (omega arith)) (greatest-read _ _ (start .args .b) _ (omega arith)))
+      ∙ sym (bounds-read _ _ (λ (l g : ℕ). not (not (leb l n && leb n g))) (start .args .b) _ _ (omega arith) (omega arith))
 
 returns : tie.Need-returns Inv-loop μ-loop
 returns c =

@@ -96,8 +96,9 @@ rule c =
 
 returns : tie.Need-returns Inv-loop μ-loop
 returns c =
-    let turn = c .before .before .before in
-    sym (not-all _ _ (turn .loop-test .taken) (sym (c .before .is-set .ensures) ∙ not-true _ (c .if1 .taken))) ∙ rule (turn .before)
+    let turn = c .before .before .before .before in
+    let bits = 32 * turn .before .before .k .result - turn .before .before .before .d .result in
+    sym (not-all bits _ (omega arith) (sym (c .before .is-set .ensures) ∙ not-true _ (c .if1 .taken))) ∙ rule turn
 
 add-j : tie.Need-add-j Inv-loop μ-loop
 add-j c = omega (arith, few (c .before .before .before .before))

@@ -84,7 +84,7 @@ returns c =
     let at = turn .before .entries-start .result + turn .loop .i in
     let contents-start = c .before .before .before .contents-start in
     let dirty : clean (start .args .geo) (start .args .image .now) (start .args .b) (turn .loop .i) ≡ false =
-    clean-free _ _ _ (turn .loop .i) at (contents-start .result) (omega arith) (found .if1 .taken) (contents-start .ensures)
+    clean-free _ _ _ (turn .loop .i) at (contents-start .result) (omega arith) (found .if1 .taken) (omega arith)
     ∙ sym (c .before .all-ones .ensures)
     ∙ not-true _ (c .if2 .taken) in
     sym (not-all (d (start .args .geo)) _ (omega arith) dirty)

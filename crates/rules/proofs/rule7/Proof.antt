@@ -1,5 +1,5 @@
 -- `rules::rule7` meets its contract: a block is full exactly when its free slots are 0, and each way tests what the rule asks there.
-use mathlib.Core.Path.{_≡_, sym, ap, ap₂, _∙_}
+use mathlib.Core.Path.{_≡_, sym, ap, _∙_}
 use mathlib.Core.Bool.{_&&_}
 use Prim.Native.Nat.{ℕ, _+_, _<_}
 use native.Mathlib.Omega.{arith}
@@ -12,7 +12,7 @@ use Rattle.geometry.specs.Places.{place}
 use Rattle.image.specs.Blocks.{full}
 use Rattle.image.specs.WellFormed.{R7}
 use Rattle.image.proofs.Reading.{word-inside, full-count}
-use Rattle.rules.proofs.RuleLaws.{least-read, greatest-read}
+use Rattle.rules.proofs.RuleLaws.{bounds-read}
 use Rattle.rules.proofs.rule7.Statement.{statement}
 use Rattle.rules.proofs.rule7.Tie as tie
 
@@ -58,7 +58,7 @@ unfolding R7
 open-is c =
     let b = c .before .before .before .before .args .b in
     rw (full-is (c .before) ∙ ne-eqb _ 0 (c .if1 .left))
-    (sym (ap₂ (λ (l g : ℕ). eqb l ones && eqb g ones) (least-read _ _ b _ (omega arith)) (greatest-read _ _ b _ (omega arith))))
+    (sym (bounds-read _ _ (λ (l g : ℕ). eqb l ones && eqb g ones) b _ _ (omega arith) (omega arith)))
 
 returns-2 : tie.Need-returns-2
 returns-2 c =

@@ -12,7 +12,8 @@ use Rattle.ranges.specs.Range.{allBelow}
 use Rattle.geometry.proofs.Laws.{logical-small}
 use Rattle.rules.specs.Marks.{Marks}
 use Rattle.image.specs.WellFormed.{soundBlock, sound}
-use Rattle.rules.proofs.RuleLaws.{all-more, sound-broken, sound-maps, unsound-fails, sound-decides, marks-start}
+use Rattle.image.proofs.Facts.{sound-facts, sound-maps}
+use Rattle.rules.proofs.RuleLaws.{all-more, sound-broken, unsound-fails, sound-decides, marks-start}
 use Rattle.rules.proofs.well_formed.Statement.{statement}
 use Rattle.rules.proofs.well_formed.Tie as tie
 
@@ -74,7 +75,7 @@ all-sound c =
     rw end at (c .before .loop .inv .2)
 
 count-blank-requires : tie.Need-count-blank-requires Inv-loop μ-loop
-count-blank-requires c κs = (c .before .before .before .before .pre, sound-maps _ _ (all-sound c))
+count-blank-requires c κs = (c .before .before .before .before .pre, sound-maps _ _ (sound-facts _ _ (all-sound c)))
 
 returns-2 : tie.Need-returns-2 Inv-loop μ-loop
 returns-2 c = ap (ltb 0) (c .count-blank .ensures) ∙ sym (sound-decides _ _ (all-sound (c .before)))
