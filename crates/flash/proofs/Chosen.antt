@@ -9,9 +9,9 @@ use native.Mathlib.Omega.{arith}
 use lib.Dec.{eqb}
 use borrow.Author.Tests.{not-true, not-false, eqb-true, eqb-false}
 use Rattle.ranges.specs.Range.{countBelow, anyBelow}
-use Rattle.ranges.proofs.Tests.{both-pass, all-at, all-of, any-at, none-at}
+use Rattle.ranges.proofs.Tests.{both-pass, all-at, all-of, none-at}
 use Rattle.ranges.proofs.Sums.{Two, count-two, count-fails}
-use Rattle.ranges.proofs.Searches.{best-passes, best-some}
+use Rattle.ranges.proofs.Searches.{best-passes, best-some, best-any}
 use Rattle.geometry.specs.declared.Geometry.{Geometry}
 use Rattle.geometry.specs.Geometry.{Limits, d}
 use Rattle.geometry.proofs.Laws.{d-positive}
@@ -40,7 +40,7 @@ pub record Choice (geo : Geometry) (image : Image) : Type 0 where
   pub i : ℕ
   pub chosen : Chosen geo image b i
 
-module _ (geo : Geometry) (image : Image) (within : Limits geo) where
+module _ (geo : Geometry) (image : Image) where
   pub blank-slot : (b : ℕ) → blank geo image b ≡ true → (j : ℕ) → j < d geo → slot geo image b j ≡ Free
   unfolding blank
   blank-slot b t j l = free-is _ (all-at (d geo) _ t j l)
@@ -53,20 +53,19 @@ module _ (geo : Geometry) (image : Image) (within : Limits geo) where
   open-not-blank : (b : ℕ) → isOpen geo image b ≡ true → blank geo image b ≡ true → ⊥
   open-not-blank b o t = true≢false (sym t ∙ not-true (blank geo image b) (both-pass (not (blank geo image b)) (not (full geo image b)) o .0))
 
-  open-free : (b : ℕ) → isOpen geo image b ≡ true → anyBelow (d geo) (λ j. isFree (slot geo image b j)) ≡ true
+  pub open-free : (b : ℕ) → isOpen geo image b ≡ true → anyBelow (d geo) (λ j. isFree (slot geo image b j)) ≡ true
   unfolding full
   open-free b o = not-false _ (not-true (full geo image b) (both-pass (not (blank geo image b)) (not (full geo image b)) o .1))
 
+module _ (geo : Geometry) (image : Image) (within : Limits geo) where
   -- "1. If any block is open: the lowest free slot of the lowest-numbered open block."
   rule-1 : anyOpen geo image ≡ true → {c : ℕ} → c < geo .blocks → blank geo image c ≡ true → Choice geo image
   unfolding filling lowestOpen lowestFree
   rule-1 t {c} l empty =
-      let some-open = any-at (geo .blocks) (isOpen geo image) t in
-      let block = best-some (λ i r. false) (geo .blocks) (isOpen geo image) (some-open .1) (some-open .2) in
+      let block = best-any (λ i r. false) (geo .blocks) (isOpen geo image) t in
       let is-open = best-passes (λ i r. false) (geo .blocks) (isOpen geo image) block in
       let frees : ℕ → Bool = λ j. isFree (slot geo image (lowestOpen geo image) j) in
-      let some-free = any-at (d geo) frees (open-free (lowestOpen geo image) is-open) in
-      let inside = best-some (λ i r. false) (d geo) frees (some-free .1) (some-free .2) in
+      let inside = best-any (λ i r. false) (d geo) frees (open-free geo image (lowestOpen geo image) is-open) in
       record {
         b = lowestOpen geo image;
         i = lowestFree geo image (lowestOpen geo image);
@@ -78,7 +77,7 @@ module _ (geo : Geometry) (image : Image) (within : Limits geo) where
               free = free-is _ (best-passes (λ i r. false) (d geo) frees inside);
               spare = c;
               spare-in = l;
-              spare-other = λ e. open-not-blank (lowestOpen geo image) is-open (ap (blank geo image) (sym e) ∙ empty);
+              spare-other = λ e. open-not-blank geo image (lowestOpen geo image) is-open (ap (blank geo image) (sym e) ∙ empty);
               spare-blank = empty;
             };
       }
@@ -108,7 +107,7 @@ module _ (geo : Geometry) (image : Image) (within : Limits geo) where
                   steps = λ n ws. rw t;
                   block = block;
                   slot-of = d-positive geo within;
-                  free = blank-slot (leastWornBlank geo image) empty 0 (d-positive geo within);
+                  free = blank-slot geo image (leastWornBlank geo image) empty 0 (d-positive geo within);
                   spare = c;
                   spare-in = l;
                   spare-other = n;

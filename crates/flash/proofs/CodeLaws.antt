@@ -30,9 +30,9 @@ module _ (geo : Geometry) where
 
   -- and so does the entry there
   pub found-entry-inside :
-      (image : Image) {found : Found} {b i : ℕ} → Shaped geo image → InImage geo found → found ≡ At b i → place geo b (entryWord geo i) < length image
-  found-entry-inside image {b = b} {i = i} shaped inside e =
-      entry-inside geo image shaped (inside .block b i e) (inside .slot-of b i e)
+      {image : Image} {found : Found} {b i : ℕ} →
+      Shaped geo image × InImage geo found → found ≡ At b i → place geo b (entryWord geo i) < length image
+  found-entry-inside {image} {b = b} {i = i} (shaped, inside) e = entry-inside geo image shaped (inside .block b i e) (inside .slot-of b i e)
 
   -- one word programmed is the run of one step; its place and the asked word may be known by equations alone
   pub run-program :

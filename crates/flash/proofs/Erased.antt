@@ -1,8 +1,8 @@
 -- The erasing of a block: what every reading of the image is afterwards, and that the image stays sound where the block had no
 -- live slot. Assumes nothing.
 use mathlib.Core.Path.{_≡_, refl, sym, ap, _∙_}
-use mathlib.Core.Logic.{_≢_}
-use mathlib.Core.Bool.{true, false, not}
+use mathlib.Core.Logic.{_≢_, dite}
+use mathlib.Core.Bool.{true, not}
 use mathlib.Core.List.{List, [], _∷_, _++_}
 use Prim.Native.Nat.{ℕ, _+_, _-_, _*_, _%_, _^_, _<_, _≤_}
 use native.Mathlib.Nat.{mul-le-mul-right}
@@ -10,18 +10,18 @@ use native.Mathlib.Decide.{decLt, ℕ-discrete}
 use native.Mathlib.Omega.{arith}
 use lib.ListN.{length, getD, take, drop, replicate, length-append, length-drop, length-replicate, getD-replicate, List·getD-append}
 use lib.Seq.{getD-take, getD-drop, getD-append-add, length-take-le}
-use Rattle.ranges.proofs.Tests.{all-of, any-of, any-ext}
+use Rattle.ranges.proofs.Tests.{any-ext}
 use Rattle.bits.specs.Word.{ones, isSet, programmed}
 use Rattle.bits.proofs.Bit.{set-bit, ones-bit}
 use Rattle.bits.proofs.Programming.{ones-leave}
 use Rattle.geometry.specs.declared.Geometry.{Geometry}
 use Rattle.geometry.specs.Geometry.{Limits, d, k, blockLength, sectorWords}
 use Rattle.geometry.specs.Places.{place, eraseWord, leastWord, greatestWord, mapWord, entryWord, contentWord}
-use Rattle.geometry.proofs.Laws.{d-positive, management-inside, management-fits, map-word-inside, map-covers, entry-word-inside, content-word-inside, content-word-after}
+use Rattle.geometry.proofs.Laws.{low-in-block, map-in-block, entry-in-block, map-covers, content-word-inside, content-word-after}
 use Rattle.image.specs.declared.Slot.the-variants.{Free, Live}
 use Rattle.image.specs.Words.{Image, Shaped, Words32, word, eraseCount, leastMapped, greatestMapped, freeMap, mapBit, entry, contents}
 use Rattle.image.specs.Slots.{slotOf, slot, isFree, isFaulty, mapOf}
-use Rattle.image.specs.Blocks.{blank, full}
+use Rattle.image.specs.Blocks.{full}
 use Rattle.image.specs.WellFormed.{ceiling}
 use Rattle.image.proofs.Entries.{free-slot}
 use Rattle.image.proofs.Reading.{block-room, word-inside}
@@ -29,10 +29,9 @@ use Rattle.image.proofs.Facts.{Sound}
 use Rattle.image.proofs.Finding.{map-same}
 use Rattle.image.proofs.Places.{apart, contents-at, contents-are, contents-long}
 use Rattle.flash.specs.Steps.{Step, Program, Erase, erasedBlock, applied, run, leavesAsked}
-use Rattle.flash.proofs.Stores.{Exact, lastAsked, last-here, last-other, exact-one, run-words}
+use Rattle.flash.proofs.Stores.{Exact, lastAsked, counts-erasures, count-one, last-here, last-other, exact-one, run-words}
 use Rattle.flash.proofs.Filling.{Ready}
 use Rattle.flash.proofs.Kept.{free-not-live}
-use Rattle.flash.proofs.Counts.{no-erasure}
 
 module _ (geo : Geometry) (image : Image) (shaped : Shaped geo image) (v : ℕ) (block : v < geo .blocks) where
   abbrev before : List ℕ
@@ -119,14 +118,16 @@ module _ (geo : Geometry) (image : Image) (ready : Ready geo image) (v w : ℕ) 
   abbrev wiped : Image
   wiped = run geo image steps
 
-  low-in : {j : ℕ} → j < sectorWords → j < blockLength geo
-  low-in l = management-inside geo within (omega arith)
-
   count-exact : Exact geo bare (Program (place geo v eraseWord) w ∷ [])
   count-exact =
       exact-one geo bare (place geo v eraseWord) w
-      (omega (arith, erased-long geo image (ready .shaped) v block, word-inside geo image (ready .shaped) block (low-in {j = 0} (omega arith))))
-      (ap (λ (x : ℕ). programmed x w) (erased-inside geo image (ready .shaped) v block eraseWord (low-in (omega arith))) ∙ ones-leave w (omega arith))
+      (omega (
+        arith,
+        erased-long geo image (ready .shaped) v block,
+        word-inside geo image (ready .shaped) block (low-in-block geo within {j = 0} (omega arith)),
+      ))
+      (ap (λ (x : ℕ). programmed x w) (erased-inside geo image (ready .shaped) v block eraseWord (low-in-block geo within (omega arith)))
+      ∙ ones-leave w (omega arith))
 
   last-image : wiped ≡ run geo bare (Program (place geo v eraseWord) w ∷ [])
   unfolding run applied
@@ -145,13 +146,13 @@ module _ (geo : Geometry) (image : Image) (ready : Ready geo image) (v w : ℕ) 
   wiped-inside : (j : ℕ) → j < blockLength geo → j ≢ eraseWord → word wiped (place geo v j) ≡ ones
   wiped-inside j l n =
       wiped-word (place geo v j)
-      ∙ last-other w (word bare (place geo v j)) (apart geo l (low-in (omega arith)) (λ p e. n e))
+      ∙ last-other w (word bare (place geo v j)) (apart geo l (low-in-block geo within (omega arith)) (λ p e. n e))
       ∙ erased-inside geo image (ready .shaped) v block j l
 
   wiped-outside : (c j : ℕ) → c ≢ v → j < blockLength geo → word wiped (place geo c j) ≡ word image (place geo c j)
   wiped-outside c j n l =
       wiped-word (place geo c j)
-      ∙ last-other w (word bare (place geo c j)) (apart geo l (low-in (omega arith)) (λ p e. n p))
+      ∙ last-other w (word bare (place geo c j)) (apart geo l (low-in-block geo within (omega arith)) (λ p e. n p))
       ∙ erased-outside geo image (ready .shaped) v block c j n l
 
   wiped-shaped : Shaped geo wiped
@@ -159,16 +160,11 @@ module _ (geo : Geometry) (image : Image) (ready : Ready geo image) (v w : ℕ) 
 
   pub wiped-words : Words32 wiped
   wiped-words =
-      rw last-image (run-words geo bare (Program (place geo v eraseWord) w ∷ []) (no-erasure (place geo v eraseWord) w) (erased-words geo image (ready .shaped) v block (ready .words)))
+      rw last-image
+      (run-words geo bare (Program (place geo v eraseWord) w ∷ []) (count-one counts-erasures (place geo v eraseWord) w)
+      (erased-words geo image (ready .shaped) v block (ready .words)))
 
   -- ---- each reading
-
-  map-in : {j : ℕ} → j < 32 * k geo → mapWord j < blockLength geo
-  map-in {j} l =
-      management-inside geo within (omega (arith, map-word-inside geo within {i = j} l, management-fits geo within))
-
-  entry-in : {j : ℕ} → j < d geo → entryWord geo j < blockLength geo
-  entry-in l = management-inside geo within (entry-word-inside geo within l)
 
   pub wiped-count : eraseCount geo wiped v ≡ w
   unfolding eraseCount
@@ -176,17 +172,17 @@ module _ (geo : Geometry) (image : Image) (ready : Ready geo image) (v w : ℕ) 
 
   pub wiped-count-other : (c : ℕ) → c ≢ v → eraseCount geo wiped c ≡ eraseCount geo image c
   unfolding eraseCount
-  wiped-count-other c n = wiped-outside c eraseWord n (low-in (omega arith))
+  wiped-count-other c n = wiped-outside c eraseWord n (low-in-block geo within (omega arith))
 
   pub wiped-free : (j : ℕ) → j < d geo → slot geo wiped v j ≡ Free
   unfolding slot entry
   wiped-free j l =
-      ap (slotOf (geo .logical)) (wiped-inside (entryWord geo j) (entry-in l) (λ e. omega arith))
+      ap (slotOf (geo .logical)) (wiped-inside (entryWord geo j) (entry-in-block geo within l) (λ e. omega arith))
       ∙ free-slot (geo .logical) ones (omega arith) refl
 
   pub wiped-slot : (c j : ℕ) → c ≢ v → j < d geo → slot geo wiped c j ≡ slot geo image c j
   unfolding slot entry
-  wiped-slot c j n l = ap (slotOf (geo .logical)) (wiped-outside c (entryWord geo j) n (entry-in l))
+  wiped-slot c j n l = ap (slotOf (geo .logical)) (wiped-outside c (entryWord geo j) n (entry-in-block geo within l))
 
   pub wiped-contents : (c j : ℕ) → c < geo .blocks → c ≢ v → j < d geo → contents geo wiped c j ≡ contents geo image c j
   wiped-contents c j l n h =
@@ -196,16 +192,12 @@ module _ (geo : Geometry) (image : Image) (ready : Ready geo image) (v w : ℕ) 
   map-of-v : (j : ℕ) → j < 32 * k geo → mapBit geo wiped v j ≡ true
   unfolding freeMap
   map-of-v j l =
-      ap (λ (x : ℕ). isSet x (j % 32)) (wiped-inside (mapWord j) (map-in l) (λ e. omega arith))
+      ap (λ (x : ℕ). isSet x (j % 32)) (wiped-inside (mapWord j) (map-in-block geo within {i = j} l) (λ e. omega arith))
       ∙ set-bit ones (j % 32) (ones-bit 32 (j % 32) (omega arith))
 
   map-of-other : (c j : ℕ) → c ≢ v → j < 32 * k geo → mapBit geo wiped c j ≡ mapBit geo image c j
   unfolding freeMap
-  map-of-other c j n l = ap (λ (x : ℕ). isSet x (j % 32)) (wiped-outside c (mapWord j) n (map-in l))
-
-  full-of-v : full geo wiped v ≡ false
-  unfolding full
-  full-of-v = ap not (any-of (d geo) (λ j. isFree (slot geo wiped v j)) (d-positive geo within) (ap isFree (wiped-free 0 (d-positive geo within))))
+  map-of-other c j n l = ap (λ (x : ℕ). isSet x (j % 32)) (wiped-outside c (mapWord j) n (map-in-block geo within {i = j} l))
 
   full-of-other : (c : ℕ) → c ≢ v → full geo wiped c ≡ full geo image c
   unfolding full
@@ -213,15 +205,17 @@ module _ (geo : Geometry) (image : Image) (ready : Ready geo image) (v w : ℕ) 
 
   bounds-of-v : (leastMapped geo wiped v ≡ ones) × (greatestMapped geo wiped v ≡ ones)
   unfolding leastMapped greatestMapped
-  bounds-of-v = (wiped-inside leastWord (low-in (omega arith)) (λ e. omega arith), wiped-inside greatestWord (low-in (omega arith)) (λ e. omega arith))
+  bounds-of-v = (
+    wiped-inside leastWord (low-in-block geo within (omega arith)) (λ e. omega arith),
+    wiped-inside greatestWord (low-in-block geo within (omega arith)) (λ e. omega arith),
+  )
 
   bounds-of-other : (c : ℕ) → c ≢ v → (leastMapped geo wiped c ≡ leastMapped geo image c) × (greatestMapped geo wiped c ≡ greatestMapped geo image c)
   unfolding leastMapped greatestMapped
-  bounds-of-other c n = (wiped-outside c leastWord n (low-in (omega arith)), wiped-outside c greatestWord n (low-in (omega arith)))
-
-  pub wiped-blank : blank geo wiped v ≡ true
-  unfolding blank
-  wiped-blank = all-of (d geo) (λ j l. ap isFree (wiped-free j l))
+  bounds-of-other c n = (
+    wiped-outside c leastWord n (low-in-block geo within (omega arith)),
+    wiped-outside c greatestWord n (low-in-block geo within (omega arith)),
+  )
 
   -- ---- the rules, where no slot of the block was live
 
@@ -231,13 +225,6 @@ module _ (geo : Geometry) (image : Image) (ready : Ready geo image) (v w : ℕ) 
     live-was {c} {j} {n} l e =
         let other : c ≢ v = λ p. free-not-live (ap (λ (x : ℕ). slot geo wiped x j) p ∙ wiped-free j l) e in
         (other, sym (wiped-slot c j other l) ∙ e)
-
-    in-block : {A : Type 0} (c : ℕ) → (c ≡ v → A) → (c ≢ v → A) → A
-    in-block {A} c here other = go (ℕ-discrete c v)
-      where
-        go : Dec (c ≡ v) → A
-        go (yes p) = here p
-        go (no n) = other n
 
     clean-v : (j m : ℕ) → j < d geo → m < sectorWords → getD (contents geo wiped v j) m 0 ≡ ones
     clean-v j m l h =
@@ -249,29 +236,29 @@ module _ (geo : Geometry) (image : Image) (ready : Ready geo image) (v w : ℕ) 
         let s = ready .sound in
         record {
           worn = λ c l.
-              in-block c
+              dite (ℕ-discrete c v)
               (λ p. rw (ap (eraseCount geo wiped) p ∙ wiped-count) fits)
               (λ n. rw (wiped-count-other c n) (s .worn c l));
           map = λ c j l h.
               let covered : j < 32 * k geo = omega (arith, map-covers geo within) in
-              in-block c
+              dite (ℕ-discrete c v)
               (λ p. rw p (map-of-v j covered ∙ sym (ap isFree (wiped-free j h))))
               (λ n. map-of-other c j n covered ∙ s .map c j l h ∙ sym (ap isFree (wiped-slot c j n h)));
           rest = λ c j l h m.
-              in-block c (λ p. rw p (map-of-v j m)) (λ n. map-of-other c j n m ∙ s .rest c j l h m);
+              dite (ℕ-discrete c v) (λ p. rw p (map-of-v j m)) (λ n. map-of-other c j n m ∙ s .rest c j l h m);
           clean = λ c j l h e m q.
-              in-block c
+              dite (ℕ-discrete c v)
               (λ p. rw p (clean-v j m h q))
               (λ n.
               ap (λ (x : List ℕ). getD x m 0) (wiped-contents c j l n h)
               ∙ s .clean c j l h (sym (wiped-slot c j n h) ∙ e) m q);
           proper = λ c j l h.
-              in-block c
+              dite (ℕ-discrete c v)
               (λ p. rw p (ap isFaulty (wiped-free j h)))
               (λ n. ap isFaulty (wiped-slot c j n h) ∙ s .proper c j l h);
           once = λ n c c' j j' l l' h h' e e'. s .once n c c' j j' l l' h h' (live-was h e .1) (live-was h' e' .1);
           unbounded = λ c l f.
-              in-block c
+              dite (ℕ-discrete c v)
               (λ p. rw p bounds-of-v)
               (λ n.
               let same = bounds-of-other c n in

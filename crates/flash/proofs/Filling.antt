@@ -11,7 +11,7 @@ use Rattle.bits.proofs.Programming.{clearing-leaves, ones-leave}
 use Rattle.geometry.specs.declared.Geometry.{Geometry}
 use Rattle.geometry.specs.Geometry.{Limits, d, k, blockLength, sectorWords}
 use Rattle.geometry.specs.Places.{place, mapWord, entryWord, contentWord}
-use Rattle.geometry.proofs.Laws.{logical-small, management-inside, management-fits, map-word-inside, map-covers, entry-word-inside, content-word-inside, content-word-after}
+use Rattle.geometry.proofs.Laws.{logical-small, management-fits, map-word-inside, low-in-block, entry-in-block, map-covers, entry-word-inside, content-word-inside, content-word-after}
 use Rattle.image.specs.declared.Slot.the-variants.{Free, Live}
 use Rattle.image.specs.declared.Found.{Found}
 use Rattle.image.specs.declared.Found.the-variants.{At, Nothing}
@@ -90,19 +90,14 @@ module _ (geo : Geometry) (image : Image) (n : ℕ) (ws : List ℕ) (b i : ℕ) 
 
   -- ---- the places are apart
 
-  map-in : mapWord i < blockLength geo
-  map-in =
-      management-inside geo within
-      (omega (arith, map-word-inside geo within {i = i} (omega (arith, map-covers geo within, target .slot-of)), management-fits geo within))
-
   map-before : mapWord i < 3 + k geo
   map-before = map-word-inside geo within {i = i} (omega (arith, map-covers geo within, target .slot-of))
 
-  entry-in : {j : ℕ} → j < d geo → entryWord geo j < blockLength geo
-  entry-in l = management-inside geo within (entry-word-inside geo within l)
+  map-in : mapWord i < blockLength geo
+  map-in = low-in-block geo within map-before
 
   map-not-entry : (c : ℕ) {j : ℕ} → j < d geo → map-place ≢ place geo c (entryWord geo j)
-  map-not-entry c l = apart geo map-in (entry-in l) (λ p e. omega (arith, map-before))
+  map-not-entry c l = apart geo map-in (entry-in-block geo within l) (λ p e. omega (arith, map-before))
 
   map-not-content : (j : ℕ) → j < sectorWords → map-place ≢ content-place j
   map-not-content j l =
@@ -111,7 +106,7 @@ module _ (geo : Geometry) (image : Image) (n : ℕ) (ws : List ℕ) (b i : ℕ) 
 
   entry-not-content : (c : ℕ) {j : ℕ} → j < d geo → (m : ℕ) → m < sectorWords → place geo c (entryWord geo j) ≢ content-place m
   entry-not-content c l m h =
-      apart geo (entry-in l) (content-word-inside geo within (target .slot-of) h)
+      apart geo (entry-in-block geo within l) (content-word-inside geo within (target .slot-of) h)
       (λ p e. omega (arith, entry-word-inside geo within l, content-word-after geo within i m))
 
   content-own : (j m : ℕ) → j < sectorWords → m < sectorWords → content-place j ≡ content-place m → j ≡ m
@@ -123,7 +118,7 @@ module _ (geo : Geometry) (image : Image) (n : ℕ) (ws : List ℕ) (b i : ℕ) 
 
   old-elsewhere : {c j : ℕ} → old ≡ At c j → entry-place ≢ place geo c (entryWord geo j)
   old-elsewhere {c} {j} e =
-      apart geo (entry-in (target .slot-of)) (entry-in (old-live e .slot-of))
+      apart geo (entry-in-block geo within (target .slot-of)) (entry-in-block geo within (old-live e .slot-of))
       (λ p q.
       let same : i ≡ j = omega arith in
       let clash : Free ≡ Live n = sym (target .free) ∙ ap₂ (slot geo image) p same ∙ old-live e .live in

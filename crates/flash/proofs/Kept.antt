@@ -1,6 +1,6 @@
 -- What a placing keeps: the image stays sound, the map is the old one with n set, one slot fewer is free. Assumes nothing.
 use mathlib.Core.Path.{_≡_, sym, ap, ap₂, _∙_}
-use mathlib.Core.Logic.{_≢_, _⊎_, inl, inr, ⊎-elim}
+use mathlib.Core.Logic.{_≢_, _⊎_, inl, inr, ⊎-elim, dite}
 use mathlib.Core.Bool.{true, false, not, true≢false}
 use mathlib.Core.List.{List}
 use mathlib.Core.Option.{some}
@@ -17,11 +17,11 @@ use Rattle.geometry.specs.declared.Geometry.{Geometry}
 use Rattle.geometry.specs.Geometry.{d, sectorWords}
 use Rattle.geometry.proofs.Laws.{map-covers}
 use Rattle.image.specs.declared.Slot.{Slot}
-use Rattle.image.specs.declared.Slot.the-variants.{Free, Live, Dead, Faulty}
+use Rattle.image.specs.declared.Slot.the-variants.{Free, Live, Dead}
 use Rattle.image.specs.declared.Found.{Found}
 use Rattle.image.specs.declared.Found.the-variants.{At, Nothing}
 use Rattle.image.specs.Words.{Image, Words32, leastMapped, greatestMapped, mapBit, contents}
-use Rattle.image.specs.Slots.{slot, isFree, isFaulty, isLiveFor, liveIn, find, mapOf}
+use Rattle.image.specs.Slots.{slot, isFree, isLive, isFaulty, isLiveFor, liveIn, find, mapOf}
 use Rattle.image.specs.Blocks.{full, freeSlots}
 use Rattle.image.proofs.Facts.{Sound, live-is-for, live-word}
 use Rattle.image.proofs.Finding.{found-live, live-found, map-at, map-same}
@@ -30,14 +30,11 @@ use Rattle.flash.proofs.Filling.{Ready, Target}
 use Rattle.flash.proofs.Placed.{Placed, Bounds}
 
 -- two kinds of slot are never one
+pub not-live : {n : ℕ} {s : Slot} → isLive s ≡ false → s ≡ Live n → ⊥
+not-live f e = true≢false (sym (ap isLive e) ∙ f)
+
 pub free-not-live : {n : ℕ} {s : Slot} → s ≡ Free → s ≡ Live n → ⊥
-free-not-live {n} p q = let z : _≡_ {A = ℕ} 0 1 = cc in omega arith
-
-pub dead-not-live : {n : ℕ} {s : Slot} → s ≡ Dead → s ≡ Live n → ⊥
-dead-not-live {n} p q = let z : _≡_ {A = ℕ} 0 1 = cc in omega arith
-
-pub faulty-not-live : {n : ℕ} {s : Slot} → s ≡ Faulty → s ≡ Live n → ⊥
-faulty-not-live {n} p q = let z : _≡_ {A = ℕ} 0 1 = cc in omega arith
+free-not-live p = not-live (ap isLive p)
 
 pub dead-not-free : {s : Slot} → s ≡ Dead → s ≡ Free → ⊥
 dead-not-free p q = let z : _≡_ {A = ℕ} 0 1 = cc in omega arith
@@ -45,13 +42,21 @@ dead-not-free p q = let z : _≡_ {A = ℕ} 0 1 = cc in omega arith
 pub same-number : {m n : ℕ} {s : Slot} → s ≡ Live m → s ≡ Live n → m ≡ n
 same-number p q = cc
 
+-- two places of slots are the same, or differ in block or slot
+pub at-slot : {A : Type 0} (c j b i : ℕ) → (c ≡ b → j ≡ i → A) → ((c ≡ b → j ≡ i → ⊥) → A) → A
+at-slot c j b i here other =
+    dite (ℕ-discrete c b)
+    (λ x. dite (ℕ-discrete j i) (here x) (λ y. other (λ p q. y q)))
+    (λ x. other (λ p q. x p))
+
+pub other-place : {b c i j : ℕ} → (b ≡ c → i ≡ j → ⊥) → At b i ≡ At c j → ⊥
+other-place {b} {c} {i} {j} n e =
+    let p : b ≡ c = cc in
+    let q : i ≡ j = cc in
+    n p q
+
 found-at : (f : Found) (c j : ℕ) → Dec (f ≡ At c j)
-found-at (At x y) c j = go (ℕ-discrete x c) (ℕ-discrete y j)
-  where
-    go : Dec (x ≡ c) → Dec (y ≡ j) → Dec (At x y ≡ At c j)
-    go (yes p) (yes q) = yes (ap₂ At p q)
-    go (yes p) (no q) = no (λ e. q cc)
-    go (no p) q = no (λ e. p cc)
+found-at (At x y) c j = at-slot x y c j (λ p q. yes (ap₂ At p q)) (λ n. no (other-place n))
 found-at Nothing c j = no (λ e. let z : _≡_ {A = ℕ} 0 1 = cc in omega arith)
 
 module _
@@ -73,22 +78,14 @@ module _
       not-old : find geo image n ≡ At c j → ⊥
 
     which : (c j : ℕ) → c < geo .blocks → j < d geo → ((c ≡ b) × (j ≡ i)) ⊎ ((find geo image n ≡ At c j) ⊎ Same c j)
-    which c j l h = go (ℕ-discrete c b) (ℕ-discrete j i) (found-at (find geo image n) c j)
+    which c j l h = at-slot c j b i (λ x y. inl (x, y)) (λ other. inr (go other (found-at (find geo image n) c j)))
       where
-        go : Dec (c ≡ b) → Dec (j ≡ i) → Dec (find geo image n ≡ At c j) → ((c ≡ b) × (j ≡ i)) ⊎ ((find geo image n ≡ At c j) ⊎ Same c j)
-        go (yes x) (yes y) o = inl (x, y)
-        go (yes x) (no y) (yes o) = inr (inl o)
-        go (no x) y (yes o) = inr (inl o)
-        go (yes x) (no y) (no o) =
-            inr (inr (record { slots = p .other c j l h (λ r t. y t) o; not-here = λ r t. y t; not-old = o }))
-        go (no x) y (no o) =
-            inr (inr (record { slots = p .other c j l h (λ r t. x r) o; not-here = λ r t. x r; not-old = o }))
+        go : (c ≡ b → j ≡ i → ⊥) → Dec (find geo image n ≡ At c j) → (find geo image n ≡ At c j) ⊎ Same c j
+        go other (yes o) = inl o
+        go other (no o) = inr (record { slots = p .other c j l h other o; not-here = other; not-old = o })
 
     old-was : {c j : ℕ} → find geo image n ≡ At c j → slot geo image c j ≡ Live n
     old-was {c} {j} o = found-live geo image n c j o .live
-
-    old-not-here : {c j : ℕ} → find geo image n ≡ At c j → c ≡ b → j ≡ i → ⊥
-    old-not-here {c} {j} o x y = free-not-live (ap₂ (slot geo image) x y ∙ free) (old-was o)
 
     here-is : {c j : ℕ} → (c ≡ b) × (j ≡ i) → slot geo after c j ≡ Live n
     here-is e = ap₂ (slot geo after) (e .0) (e .1) ∙ p .here
@@ -110,7 +107,7 @@ module _
     live-before m c j l h other e =
         ⊎-elim
         (λ x. absurd (other (same-number e (here-is x))))
-        (λ w. ⊎-elim (λ o. absurd (dead-not-live (p .old-dead c j o) e)) (λ x. sym (x .slots) ∙ e) w)
+        (λ w. ⊎-elim (λ o. absurd (not-live (ap isLive (p .old-dead c j o)) e)) (λ x. sym (x .slots) ∙ e) w)
         (which c j l h)
 
     pub live-after :
@@ -133,26 +130,21 @@ module _
         (λ x. x)
         (λ w.
         ⊎-elim
-        (λ o. absurd (dead-not-live (p .old-dead c j o) e))
+        (λ o. absurd (not-live (ap isLive (p .old-dead c j o)) e))
         (λ x. absurd (x .not-old (live-found geo image s n c j (record { block = l; slot-of = h; live = sym (x .slots) ∙ e }))))
         w)
         (which c j l h)
 
     -- ---- the rules
 
-    map-elsewhere : (c j : ℕ) → c < geo .blocks → j < d geo → (c ≡ b → j ≡ i → ⊥) → mapBit geo after c j ≡ isFree (slot geo after c j)
-    map-elsewhere c j l h other =
+    map-kept : (c j : ℕ) → c < geo .blocks → j < d geo → mapBit geo after c j ≡ isFree (slot geo after c j)
+    map-kept c j l h =
+        at-slot c j b i
+        (λ x y. ap₂ (mapBit geo after) x y ∙ p .map-here ∙ sym (ap isFree (here-is (x, y))))
+        (λ other.
         p .map-other c j l (omega (arith, map-covers geo (ready .shaped .limits))) other
         ∙ s .map c j l h
-        ∙ sym (free-as-before c j l h other)
-
-    map-kept : (c j : ℕ) → c < geo .blocks → j < d geo → mapBit geo after c j ≡ isFree (slot geo after c j)
-    map-kept c j l h = go (ℕ-discrete c b) (ℕ-discrete j i)
-      where
-        go : Dec (c ≡ b) → Dec (j ≡ i) → mapBit geo after c j ≡ isFree (slot geo after c j)
-        go (yes x) (yes y) = ap₂ (mapBit geo after) x y ∙ p .map-here ∙ sym (ap isFree (here-is (x, y)))
-        go (yes x) (no y) = map-elsewhere c j l h (λ r t. y t)
-        go (no x) y = map-elsewhere c j l h (λ r t. x r)
+        ∙ sym (free-as-before c j l h other))
 
     proper-kept : (c j : ℕ) → c < geo .blocks → j < d geo → isFaulty (slot geo after c j) ≡ false
     proper-kept c j l h =

@@ -23,19 +23,12 @@ use Rattle.image.proofs.Finding.{live-found, map-at}
 use Rattle.image.proofs.Places.{contents-long, contents-words}
 use Rattle.flash.specs.Steps.{Step, run, wordsIn, erasuresIn, leavesAsked}
 use Rattle.flash.specs.Placing.{placing}
-use Rattle.flash.specs.Writing.{Copied, copiedSlot, copying}
+use Rattle.flash.specs.Writing.{Copied, copiedSlot, copying, FoundInPlace}
 use Rattle.flash.proofs.Stores.{run-append, asked-append, words-append, erasures-append}
 use Rattle.flash.proofs.Counts.{isAt, placing-erasures}
 use Rattle.flash.proofs.Filling.{Ready, Target}
 use Rattle.flash.proofs.Placed.{Placed, Bounds, placing-exact, placing-placed, placing-bounds, placing-cost, placing-shaped, placing-words32}
-use Rattle.flash.proofs.Kept.{free-not-live, dead-not-live, faulty-not-live, free-as-before, live-before, only-here, placed-sound, placed-here, placed-other}
-
--- a place in an image differs from another that differs in its block or its slot
-other-place : {b c i j : ℕ} → (b ≡ c → i ≡ j → ⊥) → At b i ≡ At c j → ⊥
-other-place {b} {c} {i} {j} n e =
-    let p : b ≡ c = cc in
-    let q : i ≡ j = cc in
-    n p q
+use Rattle.flash.proofs.Kept.{not-live, other-place, free-as-before, live-before, only-here, placed-sound, placed-here, placed-other}
 
 module _
     (geo : Geometry) (image : Image) (v t : ℕ)
@@ -84,7 +77,7 @@ module _
         }
 
     -- a slot that is not live is passed by
-    passed-by : (m : ℕ) (st : Copied) → m < d geo → Moved m st → ((n : ℕ) → slot geo (so-far st) v m ≡ Live n → ⊥) → Moved (suc m) st
+    passed-by : (m : ℕ) (st : Copied) → m < d geo → Moved m st → isLive (slot geo (so-far st) v m) ≡ false → Moved (suc m) st
     unfolding sumBelow
     passed-by m st l h none =
         record {
@@ -92,22 +85,16 @@ module _
           ready = h .ready;
           words = h .words;
           erasures = h .erasures;
-          taken = omega (arith, h .taken, not-live (slot geo image v m) (λ n e. none n (h .later m (omega arith) l ∙ e)));
+          taken = omega (arith, h .taken, ap one-if (sym (ap isLive (h .later m (omega arith) l)) ∙ none));
           counts = h .counts;
           later = λ j q r. h .later j (omega arith) r;
           passed = λ j n q r e.
-              ⊎-elim (λ s. none n (ap (slot geo (so-far st) v) (sym s) ∙ e)) (λ s. h .passed j n s r e) (below-suc q);
+              ⊎-elim (λ s. not-live none (ap (slot geo (so-far st) v) (sym s) ∙ e)) (λ s. h .passed j n s r e) (below-suc q);
           left-free = h .left-free;
           used = h .used;
           others = h .others;
           map = h .map;
         }
-      where
-        not-live : (s : Slot) → ((n : ℕ) → s ≡ Live n → ⊥) → one-if (isLive s) ≡ 0
-        not-live Free f = refl
-        not-live (Live n) f = absurd (f n refl)
-        not-live Dead f = refl
-        not-live Faulty f = refl
 
     -- a live slot is copied
     module _ (m : ℕ) (st : Copied) (n : ℕ) (l : m < d geo) (h : Moved m st) (live : slot geo (so-far st) v m ≡ Live n) where
@@ -200,7 +187,7 @@ module _
       passed-after : (j x : ℕ) → j < suc m → j < d geo → slot geo after v j ≡ Live x → ⊥
       passed-after j x q r e =
           ⊎-elim
-          (λ s. dead-not-live (ap (slot geo after v) s ∙ p .old-dead v m here) e)
+          (λ s. not-live (ap isLive (ap (slot geo after v) s ∙ p .old-dead v m here)) e)
           (λ s. go s (ℕ-discrete x n))
           (below-suc q)
         where
@@ -257,13 +244,17 @@ module _
     moved-on m st l h = go (slot geo (so-far st) v m) refl
       where
         go : (s : Slot) → slot geo (so-far st) v m ≡ s → Moved (suc m) (copiedSlot geo (so-far st) v t m st s)
-        go Free e = passed-by m st l h (λ n q. free-not-live e q)
+        go Free e = passed-by m st l h (ap isLive e)
         go (Live n) e = copied m st n l h e
-        go Dead e = passed-by m st l h (λ n q. dead-not-live e q)
-        go Faulty e = passed-by m st l h (λ n q. faulty-not-live e q)
+        go Dead e = passed-by m st l h (ap isLive e)
+        go Faulty e = passed-by m st l h (ap isLive e)
 
     -- all the slots
     pub moved : (m : ℕ) → m ≤ d geo → Moved m (copying geo image v t m)
     unfolding copying
     moved zero l = nothing-yet
     moved (suc m) l = moved-on m (copying geo image v t m) l (moved m (omega arith))
+
+    pub found-in-place : FoundInPlace geo image v t
+    found-in-place =
+        record { at-its-turn = λ m n l e. here m (copying geo image v t m) n l (moved m (omega arith)) e }

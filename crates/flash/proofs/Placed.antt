@@ -18,7 +18,7 @@ use Rattle.bits.proofs.Programming.{ones-leave}
 use Rattle.geometry.specs.declared.Geometry.{Geometry}
 use Rattle.geometry.specs.Geometry.{Limits, d, k, blockLength, sectorWords}
 use Rattle.geometry.specs.Places.{place, eraseWord, leastWord, greatestWord, mapWord, entryWord, contentWord}
-use Rattle.geometry.proofs.Laws.{logical-small, management-inside, management-fits, map-word-inside, map-covers, entry-word-inside, content-word-inside, content-word-after, content-word-injective}
+use Rattle.geometry.proofs.Laws.{logical-small, low-in-block, entry-in-block, management-fits, map-word-inside, map-covers, entry-word-inside, content-word-inside, content-word-after, content-word-injective}
 use Rattle.image.specs.declared.Slot.the-variants.{Live, Dead}
 use Rattle.image.specs.declared.Found.{Found}
 use Rattle.image.specs.declared.Found.the-variants.{At}
@@ -66,6 +66,10 @@ module _ (geo : Geometry) (image : Image) (n : ℕ) (ws : List ℕ) (b i : ℕ) 
   within : Limits geo
   within = ready .shaped .limits
 
+  -- neither word 1 nor word 2 of the block
+  abbrev NotBound : ℕ → Type 0
+  NotBound q = (v : ℕ) → 0 < v → v < 3 → q ≢ place geo b v
+
   -- the words of an image after (a) to (f), whatever stands in words 1 and 2 of the block
   record Words (after : Image) : Type 0 where
     long : length after ≡ length image
@@ -73,15 +77,12 @@ module _ (geo : Geometry) (image : Image) (n : ℕ) (ws : List ℕ) (b i : ℕ) 
     entry-word : word after (place geo b (entryWord geo i)) ≡ 0xC0000000 + n
     content : (j : ℕ) → j < sectorWords → word after (place geo b (contentWord geo i j)) ≡ getD ws j 0
     old-entry : {c j : ℕ} → old ≡ At c j → word after (place geo c (entryWord geo j)) ≡ cleared (cleared (entry geo image c j) currentBit) validBit
-    elsewhere : {q : ℕ} → Away q → q ≢ place geo b leastWord → q ≢ place geo b greatestWord → word after q ≡ word image q
+    elsewhere : {q : ℕ} → Away q → NotBound q → word after q ≡ word image q
 
   -- ---- which readings are elsewhere
 
   old-live : {c j : ℕ} → old ≡ At c j → LiveAt geo image n c j
   old-live {c} {j} e = found-live geo image n c j e
-
-  entry-in : {j : ℕ} → j < d geo → entryWord geo j < blockLength geo
-  entry-in l = management-inside geo within (entry-word-inside geo within l)
 
   map-in : {j : ℕ} → j < 32 * k geo → mapWord j < 3 + k geo
   map-in {j} l = map-word-inside geo within {i = j} l
@@ -89,30 +90,31 @@ module _ (geo : Geometry) (image : Image) (n : ℕ) (ws : List ℕ) (b i : ℕ) 
   slot-in-map : {j : ℕ} → j < d geo → j < 32 * k geo
   slot-in-map l = omega (arith, map-covers geo within)
 
-  low-in : {j : ℕ} → j < 3 + k geo → j < blockLength geo
-  low-in l = management-inside geo within (omega (arith, management-fits geo within))
-
   -- a word before the entries, but for the slot's own map word
   low-away : (c j : ℕ) → j < 3 + k geo → (c ≡ b → j ≡ mapWord i → ⊥) → Away (place geo c j)
   low-away c j l n' =
       record {
-        map = apart geo (low-in l) (low-in (map-in (slot-in-map (target .slot-of)))) n';
-        entry = apart geo (low-in l) (entry-in (target .slot-of)) (λ p e. omega arith);
+        map = apart geo (low-in-block geo within l) (low-in-block geo within (map-in (slot-in-map (target .slot-of)))) n';
+        entry = apart geo (low-in-block geo within l) (entry-in-block geo within (target .slot-of)) (λ p e. omega arith);
         contents = λ m h.
-            apart geo (low-in l) (content-word-inside geo within (target .slot-of) h)
+            apart geo (low-in-block geo within l) (content-word-inside geo within (target .slot-of) h)
             (λ p e. omega (arith, management-fits geo within, content-word-after geo within i m));
-        old = λ c' j' e. apart geo (low-in l) (entry-in (old-live e .slot-of)) (λ p q. omega arith);
+        old = λ c' j' e. apart geo (low-in-block geo within l) (entry-in-block geo within (old-live e .slot-of)) (λ p q. omega arith);
       }
 
   entry-away : (c j : ℕ) → j < d geo → (c ≡ b → j ≡ i → ⊥) → (old ≡ At c j → ⊥) → Away (place geo c (entryWord geo j))
   entry-away c j l n' o =
       record {
-        map = apart geo (entry-in l) (low-in (map-in (slot-in-map (target .slot-of)))) (λ p e. omega (arith, map-in (slot-in-map (target .slot-of))));
-        entry = apart geo (entry-in l) (entry-in (target .slot-of)) (λ p e. n' p (omega arith));
+        map =
+            apart geo (entry-in-block geo within l) (low-in-block geo within (map-in (slot-in-map (target .slot-of))))
+            (λ p e. omega (arith, map-in (slot-in-map (target .slot-of))));
+        entry = apart geo (entry-in-block geo within l) (entry-in-block geo within (target .slot-of)) (λ p e. n' p (omega arith));
         contents = λ m h.
-            apart geo (entry-in l) (content-word-inside geo within (target .slot-of) h)
+            apart geo (entry-in-block geo within l) (content-word-inside geo within (target .slot-of) h)
             (λ p e. omega (arith, entry-word-inside geo within l, content-word-after geo within i m));
-        old = λ c' j' e. apart geo (entry-in l) (entry-in (old-live e .slot-of)) (λ p q. let same : j ≡ j' = omega arith in o (e ∙ ap₂ At (sym p) (sym same)));
+        old = λ c' j' e.
+            apart geo (entry-in-block geo within l) (entry-in-block geo within (old-live e .slot-of))
+            (λ p q. let same : j ≡ j' = omega arith in o (e ∙ ap₂ At (sym p) (sym same)));
       }
 
   content-away : (c j m : ℕ) → j < d geo → m < sectorWords → (c ≡ b → j ≡ i → ⊥) → Away (place geo c (contentWord geo j m))
@@ -120,18 +122,22 @@ module _ (geo : Geometry) (image : Image) (n : ℕ) (ws : List ℕ) (b i : ℕ) 
       let inside = content-word-inside geo within l h in
       let late = content-word-after geo within j m in
       record {
-        map = apart geo inside (low-in (map-in (slot-in-map (target .slot-of))))
+        map = apart geo inside (low-in-block geo within (map-in (slot-in-map (target .slot-of))))
             (λ p e. omega (arith, map-in (slot-in-map (target .slot-of)), management-fits geo within));
-        entry = apart geo inside (entry-in (target .slot-of)) (λ p e. omega (arith, entry-word-inside geo within (target .slot-of)));
+        entry =
+            apart geo inside (entry-in-block geo within (target .slot-of))
+            (λ p e. omega (arith, entry-word-inside geo within (target .slot-of)));
         contents = λ m' h'.
             apart geo inside (content-word-inside geo within (target .slot-of) h')
             (λ p e. n' p (content-word-injective geo j m i m' h h' e .0));
-        old = λ c' j' e. apart geo inside (entry-in (old-live e .slot-of)) (λ p q. omega (arith, entry-word-inside geo within (old-live e .slot-of)));
+        old = λ c' j' e.
+            apart geo inside (entry-in-block geo within (old-live e .slot-of))
+            (λ p q. omega (arith, entry-word-inside geo within (old-live e .slot-of)));
       }
 
-  -- none of them is word 1 or 2
-  not-low : (c : ℕ) {w v : ℕ} → w < blockLength geo → v < 3 → 3 ≤ w → place geo c w ≢ place geo b v
-  not-low c l h m = apart geo l (low-in (omega arith)) (λ p e. omega arith)
+  -- a word from the map on is none of those two
+  not-bound : (c : ℕ) {w : ℕ} → w < blockLength geo → 3 ≤ w → NotBound (place geo c w)
+  not-bound c l m v p h = apart geo l (low-in-block geo within (omega arith)) (λ q e. omega arith)
 
   -- ---- so what is left, by slots
 
@@ -143,15 +149,13 @@ module _ (geo : Geometry) (image : Image) (n : ℕ) (ws : List ℕ) (b i : ℕ) 
     unfolding eraseCount
     counts c l =
         left .elsewhere (low-away c eraseWord (omega arith) (λ p e. omega arith))
-        (apart geo (low-in (omega arith)) (low-in (omega arith)) (λ p e. omega arith))
-        (apart geo (low-in (omega arith)) (low-in (omega arith)) (λ p e. omega arith))
+        (λ v p h. apart geo (low-in-block geo within (omega arith)) (low-in-block geo within (omega arith)) (λ q e. omega arith))
 
     map-word-other : (c j : ℕ) → j < 32 * k geo → (c ≡ b → mapWord j ≡ mapWord i → ⊥) → freeMap geo after c j ≡ freeMap geo image c j
     unfolding freeMap
     map-word-other c j l n' =
         left .elsewhere (low-away c (mapWord j) (map-in l) n')
-        (not-low c (low-in (map-in l)) (omega arith) (omega arith))
-        (not-low c (low-in (map-in l)) (omega arith) (omega arith))
+        (not-bound c (low-in-block geo within (map-in l)) (omega arith))
 
     map-word-same : (j : ℕ) → mapWord j ≡ mapWord i → freeMap geo after b j ≡ cleared (freeMap geo image b j) (i % 32)
     unfolding freeMap
@@ -196,9 +200,7 @@ module _ (geo : Geometry) (image : Image) (n : ℕ) (ws : List ℕ) (b i : ℕ) 
     unfolding slot entry
     other c j l h n' o =
         ap (slotOf (geo .logical))
-        (left .elsewhere (entry-away c j h n' o)
-        (not-low c (entry-in h) (omega arith) (omega arith))
-        (not-low c (entry-in h) (omega arith) (omega arith)))
+        (left .elsewhere (entry-away c j h n' o) (not-bound c (entry-in-block geo within h) (omega arith)))
 
     contents-here : contents geo after b i ≡ ws
     contents-here = contents-are geo after b i ws shaped-after (target .block) (target .slot-of) (target .long) (left .content)
@@ -208,8 +210,7 @@ module _ (geo : Geometry) (image : Image) (n : ℕ) (ws : List ℕ) (b i : ℕ) 
         contents-are geo after c j (contents geo image c j) shaped-after l h (contents-long geo image (ready .shaped) l h)
         (λ m q.
         left .elsewhere (content-away c j m h q n')
-        (not-low c (content-word-inside geo within h q) (omega arith) (omega (arith, content-word-after geo within j m)))
-        (not-low c (content-word-inside geo within h q) (omega arith) (omega (arith, content-word-after geo within j m)))
+        (not-bound c (content-word-inside geo within h q) (omega (arith, content-word-after geo within j m)))
         ∙ sym (contents-at geo image c j m q))
 
     placed : Placed geo image after n ws b i
@@ -239,7 +240,7 @@ module _ (geo : Geometry) (image : Image) (n : ℕ) (ws : List ℕ) (b i : ℕ) 
         entry-word = filled-entry geo image n ws b i ready target;
         content = filled-content geo image n ws b i ready target;
         old-entry = λ e. filled-old geo image n ws b i ready target e;
-        elsewhere = λ e p q. filled-elsewhere geo image n ws b i ready target e;
+        elsewhere = λ e p. filled-elsewhere geo image n ws b i ready target e;
       }
 
   -- the block was not full, so words 1 and 2 are ones until (g)
@@ -261,7 +262,7 @@ module _ (geo : Geometry) (image : Image) (n : ℕ) (ws : List ℕ) (b i : ℕ) 
 
   low-fits : (v : ℕ) → v < 3 → place geo b v < length filled
   low-fits v l =
-      let inside : v < blockLength geo = low-in (omega arith) in
+      let inside : v < blockLength geo = low-in-block geo within (omega arith) in
       omega (arith, filled-words .long, word-inside geo image (ready .shaped) (target .block) inside)
 
   abbrev least-now : ℕ
@@ -332,45 +333,34 @@ module _ (geo : Geometry) (image : Image) (n : ℕ) (ws : List ℕ) (b i : ℕ) 
   final-image = run-append geo image (fillsSlot geo image old n ws b i) (closesBlock geo filled b)
 
   -- (g) writes words 1 and 2 of the block, or nothing
-  closing-elsewhere : {q : ℕ} → q ≢ place geo b leastWord → q ≢ place geo b greatestWord → word final q ≡ word filled q
-  closing-elsewhere {q} n1 n2 =
+  closing-elsewhere : {q : ℕ} → NotBound q → word final q ≡ word filled q
+  closing-elsewhere {q} other =
       ap (λ (x : Image). word x q) final-image ∙ closing-exact .words q ∙ go (full geo filled b) refl
     where
       go : (f : Bool) → full geo filled b ≡ f → lastAsked (closesBlock geo filled b) q (word filled q) ≡ word filled q
       go true t =
           ap (λ (ss : List Step). lastAsked ss q (word filled q)) (closes-full t)
           ∙ last-append first-store second-store q (word filled q)
-          ∙ last-other greatest-now (lastAsked first-store q (word filled q)) n2
-          ∙ last-other least-now (word filled q) n1
+          ∙ last-other greatest-now (lastAsked first-store q (word filled q)) (other greatestWord (omega arith) (omega arith))
+          ∙ last-other least-now (word filled q) (other leastWord (omega arith) (omega arith))
       go false t = ap (λ (ss : List Step). lastAsked ss q (word filled q)) (closes-open t) ∙ last-nothing q (word filled q)
-
-  content-not-low : (j v : ℕ) → j < sectorWords → v < 3 → place geo b (contentWord geo i j) ≢ place geo b v
-  content-not-low j v l h =
-      not-low b (content-word-inside geo within (target .slot-of) l) h (omega (arith, content-word-after geo within i j))
 
   final-words : Words final
   final-words =
       record {
         long = placing-exact .long;
         map =
-            closing-elsewhere
-            (not-low b (low-in (map-in (slot-in-map (target .slot-of)))) (omega arith) (omega arith))
-            (not-low b (low-in (map-in (slot-in-map (target .slot-of)))) (omega arith) (omega arith))
+            closing-elsewhere (not-bound b (low-in-block geo within (map-in (slot-in-map (target .slot-of)))) (omega arith))
             ∙ filled-words .map;
-        entry-word =
-            closing-elsewhere
-            (not-low b (entry-in (target .slot-of)) (omega arith) (omega arith))
-            (not-low b (entry-in (target .slot-of)) (omega arith) (omega arith))
-            ∙ filled-words .entry-word;
+        entry-word = closing-elsewhere (not-bound b (entry-in-block geo within (target .slot-of)) (omega arith)) ∙ filled-words .entry-word;
         content = λ j l.
-            closing-elsewhere (content-not-low j leastWord l (omega arith)) (content-not-low j greatestWord l (omega arith))
+            closing-elsewhere
+            (not-bound b (content-word-inside geo within (target .slot-of) l) (omega (arith, content-word-after geo within i j)))
             ∙ filled-words .content j l;
         old-entry = λ {c} e.
-            closing-elsewhere
-            (not-low c (entry-in (old-live e .slot-of)) (omega arith) (omega arith))
-            (not-low c (entry-in (old-live e .slot-of)) (omega arith) (omega arith))
+            closing-elsewhere (not-bound c (entry-in-block geo within (old-live e .slot-of)) (omega arith))
             ∙ filled-words .old-entry e;
-        elsewhere = λ e p q. closing-elsewhere p q ∙ filled-words .elsewhere e p q;
+        elsewhere = λ e p. closing-elsewhere p ∙ filled-words .elsewhere e p;
       }
 
   pub placing-placed : Placed geo image final n ws b i
@@ -382,7 +372,7 @@ module _ (geo : Geometry) (image : Image) (n : ℕ) (ws : List ℕ) (b i : ℕ) 
   unfolding slot entry
   slot-final c j l =
       ap (slotOf (geo .logical))
-      (closing-elsewhere (not-low c (entry-in l) (omega arith) (omega arith)) (not-low c (entry-in l) (omega arith) (omega arith)))
+      (closing-elsewhere (not-bound c (entry-in-block geo within l) (omega arith)))
 
   full-final : full geo final b ≡ full geo filled b
   unfolding full
@@ -401,10 +391,8 @@ module _ (geo : Geometry) (image : Image) (n : ℕ) (ws : List ℕ) (b i : ℕ) 
 
   low-other : (c v : ℕ) → v < 3 → c ≢ b → word final (place geo c v) ≡ word image (place geo c v)
   low-other c v l n' =
-      let away = low-away c v (omega arith) (λ p e. n' p) in
-      let apart-from : (w : ℕ) → w < 3 → place geo c v ≢ place geo b w =
-      λ w h. apart geo (low-in (omega arith)) (low-in (omega arith)) (λ p e. n' p) in
-      final-words .elsewhere away (apart-from leastWord (omega arith)) (apart-from greatestWord (omega arith))
+      final-words .elsewhere (low-away c v (omega arith) (λ p e. n' p))
+      (λ w p h. apart geo (low-in-block geo within (omega arith)) (low-in-block geo within (omega arith)) (λ q e. n' q))
 
   bounds-other : (c : ℕ) → c ≢ b → (leastMapped geo final c ≡ leastMapped geo image c) × (greatestMapped geo final c ≡ greatestMapped geo image c)
   unfolding leastMapped greatestMapped

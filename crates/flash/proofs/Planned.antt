@@ -1,26 +1,26 @@
 -- How a write goes about it, from what the code finds to the definitions. Assumes nothing.
 use mathlib.Core.Path.{_≡_, refl}
-use mathlib.Core.Bool.{Bool, true, false, not, cond, _&&_}
+use mathlib.Core.Bool.{Bool, true, false, cond, _&&_}
 use mathlib.Core.List.{List}
 use Prim.Native.Nat.{ℕ, _<_, _≤_}
 use native.Mathlib.Omega.{arith}
 use lib.Dec.{eqb}
-use borrow.Author.Tests.{eq-eqb, ne-eqb, eqb-false, not-true, not-false}
+use borrow.Author.Tests.{eq-eqb, ne-eqb, eqb-false}
 use Rattle.ranges.specs.Range.{countBelow}
-use Rattle.ranges.proofs.Tests.{both-pass, any-at, any-of}
-use Rattle.ranges.proofs.Searches.{best-passes, best-some}
+use Rattle.ranges.proofs.Tests.{unless, any-of}
+use Rattle.ranges.proofs.Searches.{best-passes, best-any}
 use Rattle.geometry.specs.declared.Geometry.{Geometry}
 use Rattle.geometry.specs.Geometry.{d}
 use Rattle.image.specs.Words.{Image, eraseCount}
 use Rattle.image.specs.Slots.{slot, isFree}
-use Rattle.image.specs.Blocks.{blank, full, isOpen, lowestFree, lowestOpen, lessWorn, leastWornBlank, victim}
+use Rattle.image.specs.Blocks.{blank, isOpen, lowestFree, lowestOpen, lessWorn, leastWornBlank, victim}
 use Rattle.image.specs.WellFormed.{ceiling, R6}
-use Rattle.image.proofs.Facts.{unless}
 use Rattle.flash.specs.declared.Plan.the-variants.{Fill, Reclaim, Worn}
 use Rattle.flash.specs.Placing.{placing}
 use Rattle.flash.specs.Writing.{anyOpen, filling, mustReclaim, reclaimingFirst, writing, planned}
 use Rattle.flash.specs.Steps.{erasuresIn}
 use Rattle.flash.proofs.Counts.{placing-erasures}
+use Rattle.flash.proofs.Chosen.{open-free}
 
 module _ (geo : Geometry) (image : Image) where
   -- a block is open where the lowest open block is one of the blocks
@@ -30,12 +30,7 @@ module _ (geo : Geometry) (image : Image) where
 
   pub none-open : geo .blocks ≤ lowestOpen geo image → anyOpen geo image ≡ false
   unfolding lowestOpen
-  none-open l =
-      unless (anyOpen geo image)
-      (λ t.
-      let found = any-at (geo .blocks) (isOpen geo image) t in
-      let inside = best-some (λ i r. false) (geo .blocks) (isOpen geo image) (found .1) (found .2) in
-      omega arith)
+  none-open l = unless (anyOpen geo image) (λ t. omega (arith, best-any (λ i r. false) (geo .blocks) (isOpen geo image) t))
 
   pub no-reclaim : lowestOpen geo image < geo .blocks → mustReclaim geo image ≡ false
   unfolding mustReclaim
@@ -61,19 +56,15 @@ module _ (geo : Geometry) (image : Image) where
 
   -- the slot that rule 1 takes: the lowest free one of the lowest open block is one of its slots
   pub open-slot : lowestOpen geo image < geo .blocks → lowestFree geo image (lowestOpen geo image) < d geo
-  unfolding lowestOpen lowestFree full
+  unfolding lowestOpen lowestFree
   open-slot l =
-      let is-open = best-passes (λ i r. false) (geo .blocks) (isOpen geo image) l in
-      let not-full = both-pass (not (blank geo image (lowestOpen geo image))) (not (full geo image (lowestOpen geo image))) is-open .1 in
-      let some-free = any-at (d geo) (λ j. isFree (slot geo image (lowestOpen geo image) j)) (not-false _ (not-true _ not-full)) in
-      best-some (λ i r. false) (d geo) (λ j. isFree (slot geo image (lowestOpen geo image) j)) (some-free .1) (some-free .2)
+      best-any (λ i r. false) (d geo) (λ j. isFree (slot geo image (lowestOpen geo image) j))
+      (open-free geo image (lowestOpen geo image) (best-passes (λ i r. false) (geo .blocks) (isOpen geo image) l))
 
   -- the block that rule 2 takes
   pub blank-block : R6 geo image ≡ true → leastWornBlank geo image < geo .blocks
   unfolding R6 leastWornBlank
-  blank-block t =
-      let found = any-at (geo .blocks) (blank geo image) t in
-      best-some (lessWorn geo image) (geo .blocks) (blank geo image) (found .1) (found .2)
+  blank-block t = best-any (lessWorn geo image) (geo .blocks) (blank geo image) t
 
   -- the steps of rules 1 and 2, by what the code found
   pub filling-open :

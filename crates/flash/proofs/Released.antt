@@ -5,7 +5,6 @@ use mathlib.Core.Bool.{true, not}
 use mathlib.Core.List.{List}
 use mathlib.Core.Option.{none}
 use Prim.Native.Nat.{ℕ, _+_, _*_, _%_, _^_, _<_}
-use native.Mathlib.Decide.{ℕ-discrete}
 use native.Mathlib.Omega.{arith}
 use lib.ListN.{getD}
 use Rattle.ranges.specs.Range.{one-if, sumBelow}
@@ -16,11 +15,11 @@ use Rattle.bits.proofs.Programming.{clearing-leaves}
 use Rattle.geometry.specs.declared.Geometry.{Geometry}
 use Rattle.geometry.specs.Geometry.{Limits, d, k, blockLength}
 use Rattle.geometry.specs.Places.{place, eraseWord, leastWord, greatestWord, mapWord, entryWord, contentWord}
-use Rattle.geometry.proofs.Laws.{logical-small, management-inside, management-fits, map-word-inside, map-covers, entry-word-inside, content-word-inside, content-word-after}
+use Rattle.geometry.proofs.Laws.{logical-small, low-in-block, entry-in-block, map-word-inside, map-covers, entry-word-inside, content-word-inside, content-word-after}
 use Rattle.image.specs.declared.Slot.the-variants.{Live, Dead}
 use Rattle.image.specs.declared.Found.the-variants.{At}
 use Rattle.image.specs.Words.{Image, Shaped, word, eraseCount, leastMapped, greatestMapped, freeMap, mapBit, entry, contents}
-use Rattle.image.specs.Slots.{validBit, slotOf, slot, isFree, isFaulty, find, mapOf}
+use Rattle.image.specs.Slots.{validBit, slotOf, slot, isFree, isLive, isFaulty, find, mapOf}
 use Rattle.image.specs.Blocks.{blank, full, freeSlots}
 use Rattle.image.specs.WellFormed.{R6}
 use Rattle.image.proofs.Entries.{dead-slot, released-entry}
@@ -33,7 +32,7 @@ use Rattle.flash.specs.Placing.{programsEntry, releasing}
 use Rattle.flash.proofs.Stores.{Exact, last-here, last-other, exact-one, run-words}
 use Rattle.flash.proofs.Counts.{releasing-words, releasing-erasures}
 use Rattle.flash.proofs.Filling.{Ready}
-use Rattle.flash.proofs.Kept.{dead-not-live, dead-not-free, same-number}
+use Rattle.flash.proofs.Kept.{not-live, at-slot, dead-not-free, same-number}
 
 -- what the steps of a release of n leave
 pub record Released (geo : Geometry) (image : Image) (n : ℕ) (steps : List Step) : Type 0 where
@@ -72,16 +71,14 @@ module _ (geo : Geometry) (image : Image) (n b i : ℕ) (start : Ready geo image
 
   -- ---- each reading
 
-  entry-in : {j : ℕ} → j < d geo → entryWord geo j < blockLength geo
-  entry-in l = management-inside geo within (entry-word-inside geo within l)
-
   elsewhere : (c j : ℕ) → j < blockLength geo → (c ≡ b → j ≡ entryWord geo i → ⊥) → word after (place geo c j) ≡ word image (place geo c j)
   elsewhere c j l n' =
       exact .words (place geo c j)
-      ∙ last-other (cleared (entry geo image b i) validBit) (word image (place geo c j)) (apart geo l (entry-in (at .slot-of)) n')
+      ∙ last-other (cleared (entry geo image b i) validBit) (word image (place geo c j))
+      (apart geo l (entry-in-block geo within (at .slot-of)) n')
 
   low-word : (c j : ℕ) → j < 3 + k geo → word after (place geo c j) ≡ word image (place geo c j)
-  low-word c j l = elsewhere c j (management-inside geo within (omega (arith, management-fits geo within))) (λ p e. omega arith)
+  low-word c j l = elsewhere c j (low-in-block geo within l) (λ p e. omega arith)
 
   shaped-after : Shaped geo after
   shaped-after = record { limits = within; long = exact .long ∙ start .shaped .long }
@@ -100,7 +97,7 @@ module _ (geo : Geometry) (image : Image) (n b i : ℕ) (start : Ready geo image
 
   slot-other : (c j : ℕ) → j < d geo → (c ≡ b → j ≡ i → ⊥) → slot geo after c j ≡ slot geo image c j
   unfolding slot entry
-  slot-other c j l n' = ap (slotOf (geo .logical)) (elsewhere c (entryWord geo j) (entry-in l) (λ p e. n' p (omega arith)))
+  slot-other c j l n' = ap (slotOf (geo .logical)) (elsewhere c (entryWord geo j) (entry-in-block geo within l) (λ p e. n' p (omega arith)))
 
   counts : (c : ℕ) → eraseCount geo after c ≡ eraseCount geo image c
   unfolding eraseCount
@@ -124,14 +121,6 @@ module _ (geo : Geometry) (image : Image) (n b i : ℕ) (start : Ready geo image
 
   -- ---- any slot is the released one, or as it was
 
-  which : {A : Type 0} (c j : ℕ) → (c ≡ b → j ≡ i → A) → ((c ≡ b → j ≡ i → ⊥) → A) → A
-  which {A} c j here other = go (ℕ-discrete c b) (ℕ-discrete j i)
-    where
-      go : Dec (c ≡ b) → Dec (j ≡ i) → A
-      go (yes x) (yes y) = here x y
-      go (yes x) (no y) = other (λ p q. y q)
-      go (no x) y = other (λ p q. x p)
-
   released-at : {c j : ℕ} → c ≡ b → j ≡ i → slot geo after c j ≡ Dead
   released-at x y = ap₂ (slot geo after) x y ∙ dead
 
@@ -140,11 +129,11 @@ module _ (geo : Geometry) (image : Image) (n b i : ℕ) (start : Ready geo image
 
   free-same : (c j : ℕ) → j < d geo → isFree (slot geo after c j) ≡ isFree (slot geo image c j)
   free-same c j l =
-      which c j (λ x y. ap isFree (released-at x y) ∙ sym (ap isFree (was-at x y))) (λ o. ap isFree (slot-other c j l o))
+      at-slot c j b i (λ x y. ap isFree (released-at x y) ∙ sym (ap isFree (was-at x y))) (λ o. ap isFree (slot-other c j l o))
 
   live-was : (m c j : ℕ) → j < d geo → slot geo after c j ≡ Live m → slot geo image c j ≡ Live m
   live-was m c j l e =
-      which c j (λ x y. absurd (dead-not-live (released-at x y) e)) (λ o. sym (slot-other c j l o) ∙ e)
+      at-slot c j b i (λ x y. absurd (not-live (ap isLive (released-at x y)) e)) (λ o. sym (slot-other c j l o) ∙ e)
 
   full-same : (c : ℕ) → full geo after c ≡ full geo image c
   unfolding full
@@ -164,9 +153,9 @@ module _ (geo : Geometry) (image : Image) (n b i : ℕ) (start : Ready geo image
         rest = λ c j l h m. map-same-bit c j m ∙ s .rest c j l h m;
         clean = λ c j l h e m q.
             ap (λ (x : List ℕ). getD x m 0) (contents-same c j l h)
-            ∙ s .clean c j l h (which c j (λ x y. absurd (dead-not-free (released-at x y) e)) (λ o. sym (slot-other c j h o) ∙ e)) m q;
+            ∙ s .clean c j l h (at-slot c j b i (λ x y. absurd (dead-not-free (released-at x y) e)) (λ o. sym (slot-other c j h o) ∙ e)) m q;
         proper = λ c j l h.
-            which c j (λ x y. ap isFaulty (released-at x y)) (λ o. ap isFaulty (slot-other c j h o) ∙ s .proper c j l h);
+            at-slot c j b i (λ x y. ap isFaulty (released-at x y)) (λ o. ap isFaulty (slot-other c j h o) ∙ s .proper c j l h);
         once = λ m c c' j j' l l' h h' e e'. s .once m c c' j j' l l' h h' (live-was m c j h e) (live-was m c' j' h' e');
         unbounded = λ c l f.
             let were = s .unbounded c l (sym (full-same c) ∙ f) in
@@ -182,13 +171,13 @@ module _ (geo : Geometry) (image : Image) (n b i : ℕ) (start : Ready geo image
       (none-found geo after n
       (λ c j l h e.
       let same = start .sound .once n c b j i l (at .block) h (at .slot-of) (live-was n c j h e) (at .live) in
-      dead-not-live (released-at (same .0) (same .1)) e))
+      not-live (ap isLive (released-at (same .0) (same .1))) e))
 
   kept : (m : ℕ) → m ≢ n → mapOf geo after m ≡ mapOf geo image m
   kept m x =
       map-same geo image after m (start .sound) sound-after
       (λ c j l h e.
-      (which c j (λ p q. absurd (x (same-number e (was-at p q)))) (λ o. slot-other c j h o ∙ e), contents-same c j l h))
+      (at-slot c j b i (λ p q. absurd (x (same-number e (was-at p q)))) (λ o. slot-other c j h o ∙ e), contents-same c j l h))
       (λ c j l h e. live-was m c j h e)
 
   steps-are : releasing geo image n ≡ steps

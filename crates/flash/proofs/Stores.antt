@@ -3,7 +3,7 @@ use mathlib.Core.Path.{_≡_, refl, sym, ap, ap₂, _∙_}
 use mathlib.Core.Logic.{_≢_, ⊎-elim}
 use mathlib.Core.Bool.{Bool, true, false, cond, _&&_, and-assoc}
 use mathlib.Core.List.{List, [], _∷_, _++_}
-use Prim.Native.Nat.{ℕ, zero, suc, _+_, _^_, _<_}
+use Prim.Native.Nat.{ℕ, zero, suc, _+_, _*_, _^_, _<_}
 use native.Mathlib.Nat.{lt-suc-self, le-step}
 use native.Mathlib.Decide.{decLt, ℕ-discrete}
 use native.Mathlib.Omega.{arith}
@@ -27,10 +27,6 @@ module _ (geo : Geometry) where
   run-append image [] ys = refl
   run-append image (x ∷ xs) ys = run-append (applied geo image x) xs ys
 
-  pub run-one : (image : Image) (s : Step) → run geo image (s ∷ []) ≡ applied geo image s
-  unfolding run
-  run-one image s = refl
-
   pub run-none : (image : Image) → run geo image [] ≡ image
   unfolding run
   run-none image = refl
@@ -44,17 +40,35 @@ module _ (geo : Geometry) where
       ∙ sym (and-assoc (eqb (word next p) w) (leavesAsked geo next xs) (leavesAsked geo (run geo next xs) ys))
   asked-append image (Erase b ∷ xs) ys = asked-append (applied geo image (Erase b)) xs ys
 
-pub words-append : (xs ys : List Step) → wordsIn (xs ++ ys) ≡ wordsIn xs + wordsIn ys
+-- ---- counts of steps
+
+-- A count of a list's steps: so many for a word programmed, so many for a block erased.
+pub record Counts (count : List Step → ℕ) (per-word per-erasure : ℕ) : Type 0 where
+  pub none : count [] ≡ 0
+  pub program : (p w : ℕ) (ss : List Step) → count (Program p w ∷ ss) ≡ per-word + count ss
+  pub erase : (b : ℕ) (ss : List Step) → count (Erase b ∷ ss) ≡ per-erasure + count ss
+
+pub counts-words : Counts wordsIn 1 0
 unfolding wordsIn
-words-append [] ys = omega arith
-words-append (Program p w ∷ xs) ys = omega (arith, words-append xs ys)
-words-append (Erase b ∷ xs) ys = words-append xs ys
+counts-words = record { none = refl; program = λ p w ss. omega arith; erase = λ b ss. omega arith }
+
+pub counts-erasures : Counts erasuresIn 0 1
+unfolding erasuresIn
+counts-erasures = record { none = refl; program = λ p w ss. omega arith; erase = λ b ss. omega arith }
+
+pub count-append : {count : List Step → ℕ} {u v : ℕ} → Counts count u v → (xs ys : List Step) → count (xs ++ ys) ≡ count xs + count ys
+count-append c [] ys = omega (arith, c .none)
+count-append c (Program p w ∷ xs) ys = omega (arith, c .program p w (xs ++ ys), c .program p w xs, count-append c xs ys)
+count-append c (Erase b ∷ xs) ys = omega (arith, c .erase b (xs ++ ys), c .erase b xs, count-append c xs ys)
+
+pub count-one : {count : List Step → ℕ} {u v : ℕ} → Counts count u v → (p w : ℕ) → count (Program p w ∷ []) ≡ u
+count-one c p w = omega (arith, c .program p w [], c .none)
+
+pub words-append : (xs ys : List Step) → wordsIn (xs ++ ys) ≡ wordsIn xs + wordsIn ys
+words-append = count-append counts-words
 
 pub erasures-append : (xs ys : List Step) → erasuresIn (xs ++ ys) ≡ erasuresIn xs + erasuresIn ys
-unfolding erasuresIn
-erasures-append [] ys = omega arith
-erasures-append (Program p w ∷ xs) ys = erasures-append xs ys
-erasures-append (Erase b ∷ xs) ys = omega (arith, erasures-append xs ys)
+erasures-append = count-append counts-erasures
 
 -- ---- one word programmed
 
@@ -168,15 +182,11 @@ module _ (at asked : ℕ → ℕ) where
       (omega (arith, before .long, fit m (lt-suc-self m) .0))
       (ap (λ (w : ℕ). programmed w (asked m)) untouched ∙ fit m (lt-suc-self m) .1))
 
-  pub list-words : (m : ℕ) → wordsIn (programs m) ≡ m
-  unfolding listBelow wordsIn
-  list-words zero = refl
-  list-words (suc m) = words-append (programs m) (Program (at m) (asked m) ∷ []) ∙ omega (arith, list-words m)
-
-  pub list-erasures : (m : ℕ) → erasuresIn (programs m) ≡ 0
-  unfolding listBelow erasuresIn
-  list-erasures zero = refl
-  list-erasures (suc m) = erasures-append (programs m) (Program (at m) (asked m) ∷ []) ∙ omega (arith, list-erasures m)
+  pub count-list : {count : List Step → ℕ} {u v : ℕ} → Counts count u v → (m : ℕ) → count (programs m) ≡ m * u
+  unfolding listBelow
+  count-list c zero = omega (arith, c .none)
+  count-list c (suc m) =
+      omega (arith, count-append c (programs m) (Program (at m) (asked m) ∷ []), count-one c (at m) (asked m), count-list c m)
 
 -- ---- words stay words of 32 bits
 

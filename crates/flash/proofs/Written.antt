@@ -9,7 +9,7 @@ use native.Mathlib.Decide.{ℕ-discrete}
 use native.Mathlib.Omega.{arith}
 use lib.ListN.{length}
 use Rattle.ranges.specs.Range.{one-if, sumBelow, countBelow}
-use Rattle.ranges.proofs.Tests.{all-of, not-all, any-of, any-at}
+use Rattle.ranges.proofs.Tests.{unless, all-of, not-all, any-of, any-at}
 use Rattle.ranges.proofs.Sums.{sum-ext, sum-update, sum-update-two, one-if-le, count-one, count-positive, count-from}
 use Rattle.ranges.proofs.Searches.{best-passes, best-some}
 use Rattle.geometry.specs.declared.Geometry.{Geometry}
@@ -20,16 +20,16 @@ use Rattle.image.specs.Words.{Image, Words32, eraseCount}
 use Rattle.image.specs.Slots.{slot, isFree, find, mapOf}
 use Rattle.image.specs.Blocks.{blank, full, isOpen, freeSlots, liveSlots, deadSlots, lessWorn, leastWornBlank, preferred, victim}
 use Rattle.image.specs.WellFormed.{ceiling, R6}
-use Rattle.image.proofs.Facts.{unless}
 use Rattle.image.proofs.Capacity.{block-parts, blank-free, full-free, shut-full, blank-not-full, free-is-a-block, victim-dead}
 use Rattle.flash.specs.Steps.{Step, run, wordsIn, erasuresIn, leavesAsked}
 use Rattle.flash.specs.Placing.{placing}
-use Rattle.flash.specs.Writing.{filling, mustReclaim, reclaiming, reclaimingFirst, writing}
+use Rattle.flash.specs.Writing.{FoundInPlace, filling, mustReclaim, reclaiming, reclaimingFirst, writing}
 use Rattle.flash.proofs.Stores.{run-append, asked-append, words-append, erasures-append}
 use Rattle.flash.proofs.Counts.{isAt, placing-erasures}
 use Rattle.flash.proofs.Filling.{Ready, Target}
 use Rattle.flash.proofs.Placed.{Placed, placing-exact, placing-placed, placing-bounds, placing-cost, placing-shaped, placing-words32}
 use Rattle.flash.proofs.Kept.{free-as-before, placed-sound, placed-here, placed-other, placed-free}
+use Rattle.flash.proofs.Moving.{found-in-place}
 use Rattle.flash.proofs.Reclaimed.{Reclaimed, reclaimed}
 use Rattle.flash.proofs.Chosen.{Choice, blank-slot, slots-blank, choice, reclaim-says}
 
@@ -106,7 +106,7 @@ module _ (geo : Geometry) (image : Image) (n : ℕ) (ws : List ℕ) (start : Rea
       (all-of (d geo)
       (λ j l.
       free-as-before geo image after n ws b i start target p spare j (c .chosen .spare-in) l (λ x y. c .chosen .spare-other x)
-      ∙ ap isFree (blank-slot geo image within spare (c .chosen .spare-blank) j l)))
+      ∙ ap isFree (blank-slot geo image spare (c .chosen .spare-blank) j l)))
 
   placed-wrote : Wrote geo image n ws (placing geo image n ws b i)
   placed-wrote =
@@ -186,14 +186,17 @@ module _
     unfolding reclaiming
     r =
         reclaimed geo image v t start (victim-is .block) blank-in apart
-        (blank-slot geo image limits t is-blank) spare (victim-is .wearable)
+        (blank-slot geo image t is-blank) spare (victim-is .wearable)
+
+    pub victim-in-place : FoundInPlace geo image v t
+    victim-in-place = found-in-place geo image v t start (victim-is .block) blank-in apart (blank-slot geo image t is-blank) spare
 
     -- afterwards no reclaim is needed: the victim is blank, and the other block is open or blank too
     victim-blank : blank geo base v ≡ true
-    victim-blank = slots-blank geo base limits v (r .emptied)
+    victim-blank = slots-blank geo base v (r .emptied)
 
     target-blank : liveSlots geo image v ≡ 0 → blank geo base t ≡ true
-    target-blank e = slots-blank geo base limits t (λ j l. r .left-free j (omega arith) l)
+    target-blank e = slots-blank geo base t (λ j l. r .left-free j (omega arith) l)
 
     target-open : 1 ≤ liveSlots geo image v → isOpen geo base t ≡ true
     unfolding blank full

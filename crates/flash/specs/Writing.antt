@@ -1,16 +1,18 @@
 -- "Write picks a slot, then moves the data in": rules 1, 2 and 3.
 use mathlib.Core.Bool.{Bool, not, cond, _&&_}
 use mathlib.Core.List.{List, [], _∷_, _++_}
-use Prim.Native.Nat.{ℕ, zero, suc, _+_}
+use mathlib.Core.Path.{_≡_}
+use Prim.Native.Nat.{ℕ, zero, suc, _+_, _<_}
 use lib.Dec.{eqb}
 use Rattle.ranges.specs.Range.{anyBelow, countBelow}
 use Rattle.geometry.specs.declared.Geometry.{Geometry}
 use Rattle.geometry.specs.Geometry.{d}
 use Rattle.geometry.specs.Places.{place, eraseWord}
+use Rattle.image.specs.declared.Found.the-variants.{At}
 use Rattle.image.specs.declared.Slot.{Slot}
 use Rattle.image.specs.declared.Slot.the-variants.{Free, Live, Dead, Faulty}
 use Rattle.image.specs.Words.{Image, eraseCount, contents}
-use Rattle.image.specs.Slots.{slot}
+use Rattle.image.specs.Slots.{slot, find}
 use Rattle.image.specs.Blocks.{blank, isOpen, lowestFree, lowestOpen, leastWornBlank, victim}
 use Rattle.image.specs.WellFormed.{ceiling}
 use Rattle.flash.specs.declared.Plan.{Plan}
@@ -61,6 +63,14 @@ module _ (geo : Geometry) where
       let before = copying image v t m in
       let now = run geo image (before .steps) in
       copiedSlot now v t m before (slot geo now v m)
+
+  -- when a live slot of v has its turn, it is the one where its number is found: so on every well-formed image
+  pub record FoundInPlace (image : Image) (v t : ℕ) : Type 0 where
+    pub at-its-turn :
+        (m n : ℕ) →
+        m < d geo →
+        slot geo (run geo image (copying image v t m .steps)) v m ≡ Live n →
+        find geo (run geo image (copying image v t m .steps)) n ≡ At v m
 
   -- "The victim is erased: every word of that block is set to ones, then word 0 is programmed with the old count plus 1."
   abbrev pub erasing : Image → ℕ → List Step

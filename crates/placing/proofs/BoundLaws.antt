@@ -2,21 +2,22 @@
 -- many words a placing and the copying of a reclaim program at most. Assumes nothing.
 use mathlib.Core.Path.{_≡_, refl, sym, ap, _∙_}
 use mathlib.Core.List.{List}
-use mathlib.Core.Bool.{Bool, true, false, cond, _||_, or-true}
+use mathlib.Core.Bool.{Bool, true, false, _||_, or-true}
 use Prim.Native.Nat.{ℕ, zero, suc, _*_, _<_, _≤_, min, max}
 use native.Mathlib.Decide.{decLt}
 use native.Mathlib.Omega.{arith}
-use lib.Dec.{eqb, ltb}
-use borrow.Author.Tests.{eq-eqb, ne-eqb, ltb-true}
+use lib.Dec.{eqb}
+use borrow.Author.Tests.{eq-eqb, ne-eqb}
 use Rattle.ranges.specs.Range.{firstBelow, lastBelow}
 use Rattle.ranges.proofs.Sums.{one-if-le}
 use Rattle.ranges.proofs.Searches.{best-passes, best-some, first-before, first-is, last-after, last-is}
 use Rattle.geometry.specs.declared.Geometry.{Geometry}
 use Rattle.image.specs.declared.Slot.{Slot}
 use Rattle.image.specs.declared.Slot.the-variants.{Free, Live, Dead, Faulty}
-use Rattle.image.specs.Slots.{isFreeEntry, isComplete, numberIn, slotOf, slot, find}
+use Rattle.image.specs.Slots.{slot, find}
 use Rattle.image.specs.Words.{Image, entry, contents}
 use Rattle.image.specs.Blocks.{full}
+use Rattle.image.proofs.Entries.{live-parts}
 use Rattle.flash.specs.Steps.{run, wordsIn}
 use Rattle.flash.specs.Placing.{fillsSlot, placing}
 use Rattle.flash.specs.Writing.{Copied, copiedSlot, copying}
@@ -71,21 +72,10 @@ module _ (m : ℕ) (f : ℕ → Bool) {n : ℕ} (l : n < m) where
           passes-old (ap f same ∙ best-passes (λ i r. true) m f found)
       go found (no h) = passes-new (omega arith)
 
--- the number of a live entry is below L, whatever the word
-pub live-below : (l e n : ℕ) → slotOf l e ≡ Live n → n < l
-unfolding slotOf
-live-below l e n q = go (isFreeEntry e) (isComplete e) (ltb (numberIn e) l) refl q
-  where
-    go : (f c t : Bool) → ltb (numberIn e) l ≡ t → cond f Free (cond c (cond t (Live (numberIn e)) Faulty) Dead) ≡ Live n → n < l
-    go true c t h z = let x : _≡_ {A = ℕ} 0 1 = cc in absurd (omega arith)
-    go false false t h z = let x : _≡_ {A = ℕ} 0 1 = cc in absurd (omega arith)
-    go false true false h z = let x : _≡_ {A = ℕ} 0 1 = cc in absurd (omega arith)
-    go false true true h z = let same : numberIn e ≡ n = cc in omega (arith, ltb-true (numberIn e) l h)
-
--- so is that of a live slot
+-- the number of a live slot is below L, whatever its word
 pub live-number : (geo : Geometry) (image : Image) (b i n : ℕ) → slot geo image b i ≡ Live n → n < geo .logical
 unfolding slot
-live-number geo image b i n = live-below (geo .logical) (entry geo image b i) n
+live-number geo image b i n e = live-parts (geo .logical) (entry geo image b i) n e .2
 
 -- "Placing costs 131 words, 2 more for a replacement, 2 more if the block fills."
 pub placing-most : (geo : Geometry) (image : Image) (n : ℕ) (ws : List ℕ) (b i : ℕ) → wordsIn (placing geo image n ws b i) ≤ 135

@@ -122,7 +122,38 @@ fn close_block(image: &mut [u32], geo: Geometry, b: usize) -> u32
     2
 }
 
-// Places n, with these contents, in slot i of block b: (a) to (g). Returns how many words were programmed.
+// Places n, with these contents, in slot i of block b, where it was found before at old: (a) to (g). Returns how many words were
+// programmed.
+pub fn place_over(
+    image: &mut [u32],
+    geo: Geometry,
+    n: u32,
+    words: &[u32],
+    b: usize,
+    i: usize,
+    old: Found,
+) -> u32
+    requires { ⌜ Shaped geo (now image) ⌝ }
+    requires { ⌜ n < geo .logical ⌝ }
+    requires { ⌜ length (now words) ≡ sectorWords ⌝ }
+    requires { ⌜ b < geo .blocks ⌝ }
+    requires { ⌜ i < d geo ⌝ }
+    requires { ⌜ old ≡ find geo (now image) n ⌝ }
+    ensures { λ r. ⌜ r ≡ wordsIn (placing geo (now (image .entry)) n (now (words .entry)) b i) ⌝ }
+    ensures { λ r. ⌜ now (image .exit) ≡ run geo (now (image .entry)) (placing geo (now (image .entry)) n (now (words .entry)) b i) ⌝ }
+{
+    let entry = geo.entries_start(b) + i;
+    let outdated = bits::clear_bit(entry_at(image, geo, old), 30);
+    take_slot(image, geo, b, i);
+    let first = program_entry(image, geo, old, outdated);
+    store_contents(image, geo, b, i, words);
+    program(image, entry, 0xE000_0000 + n);
+    program(image, entry, 0xC000_0000 + n);
+    let last = program_entry(image, geo, old, bits::clear_bit(outdated, 31));
+    131 + first + last + close_block(image, geo, b)
+}
+
+// Places n, wherever it was before: it is looked up first.
 pub fn place(image: &mut [u32], geo: Geometry, n: u32, words: &[u32], b: usize, i: usize) -> u32
     requires { ⌜ Shaped geo (now image) ⌝ }
     requires { ⌜ n < geo .logical ⌝ }
@@ -132,16 +163,8 @@ pub fn place(image: &mut [u32], geo: Geometry, n: u32, words: &[u32], b: usize, 
     ensures { λ r. ⌜ r ≡ wordsIn (placing geo (now (image .entry)) n (now (words .entry)) b i) ⌝ }
     ensures { λ r. ⌜ now (image .exit) ≡ run geo (now (image .entry)) (placing geo (now (image .entry)) n (now (words .entry)) b i) ⌝ }
 {
-    let entry = geo.entries_start(b) + i;
     let old = find(image, geo, n);
-    let outdated = bits::clear_bit(entry_at(image, geo, old), 30);
-    take_slot(image, geo, b, i);
-    let first = program_entry(image, geo, old, outdated);
-    store_contents(image, geo, b, i, words);
-    program(image, entry, 0xE000_0000 + n);
-    program(image, entry, 0xC000_0000 + n);
-    let last = program_entry(image, geo, old, bits::clear_bit(outdated, 31));
-    131 + first + last + close_block(image, geo, b)
+    place_over(image, geo, n, words, b, i, old)
 }
 
 // Releases n: its live entry with bit 31 cleared, if there is one. Returns how many words were programmed.

@@ -5,21 +5,24 @@ ghost use Rattle.image.specs.Words.{Shaped, eraseCount};
 ghost use Rattle.image.specs.Blocks.{leastWornBlank};
 ghost use Rattle.image.specs.WellFormed.{ceiling};
 ghost use Rattle.flash.specs.Steps.{run, wordsIn};
-ghost use Rattle.flash.specs.Writing.{copying, reclaiming};
+ghost use Rattle.flash.specs.Writing.{FoundInPlace, copying, reclaiming};
 use blocks::erase_count;
 use flash::steps::erase_block;
 use flash::steps::program;
 use geometry::Geometry;
+use image::Found;
 use image::Slot;
 use image::slots::copy_contents;
 use image::slots::slot_at;
-use placing::place;
+use placing::place_over;
 
-// Places the live slots of block v, in slot order, in slots 0, 1, 2 and on of block t. Returns how many words were programmed.
+// Places the live slots of block v, in slot order, in slots 0, 1, 2 and on of block t. The number of a slot is found in that slot when
+// its turn comes, so it is not looked up again. Returns how many words were programmed.
 fn copy_live(image: &mut [u32], geo: Geometry, v: usize, t: usize) -> u32
     requires { ⌜ Shaped geo (now image) ⌝ }
     requires { ⌜ v < geo .blocks ⌝ }
     requires { ⌜ t < geo .blocks ⌝ }
+    requires { ⌜ FoundInPlace geo (now image) v t ⌝ }
     ensures { λ r. ⌜ r ≡ wordsIn (copying geo (now (image .entry)) v t (d geo) .steps) ⌝ }
     ensures { λ r. ⌜ now (image .exit) ≡ run geo (now (image .entry)) (copying geo (now (image .entry)) v t (d geo) .steps) ⌝ }
 {
@@ -31,7 +34,7 @@ fn copy_live(image: &mut [u32], geo: Geometry, v: usize, t: usize) -> u32
             Slot::Live(n) => {
                 let mut buffer = [0u32; 128];
                 copy_contents(image, geo, v, i, &mut buffer);
-                words += place(image, geo, n, &buffer, t, taken);
+                words += place_over(image, geo, n, &buffer, t, taken, Found::At(v, i));
                 taken += 1;
             }
             Slot::Free => {}
@@ -49,6 +52,7 @@ pub fn reclaim(image: &mut [u32], geo: Geometry, v: usize, t: usize) -> u32
     requires { ⌜ t < geo .blocks ⌝ }
     requires { ⌜ t ≡ leastWornBlank geo (now image) ⌝ }
     requires { ⌜ eraseCount geo (now image) v < ceiling ⌝ }
+    requires { ⌜ FoundInPlace geo (now image) v t ⌝ }
     ensures { λ r. ⌜ r ≡ wordsIn (reclaiming geo (now (image .entry)) v) ⌝ }
     ensures { λ r. ⌜ now (image .exit) ≡ run geo (now (image .entry)) (reclaiming geo (now (image .entry)) v) ⌝ }
 {

@@ -42,7 +42,9 @@ same-length c = search needs
 
 returns : tie.Need-returns
 unfolding closesBlock run wordsIn
-returns c = rw (full-here (c .before .before) ∙ ne-eqb _ _ (c .if1 .taken)) (refl, refl)
+returns c =
+    let tallied = c .before .before in
+    rw (full-here tallied ∙ ne-eqb (tallied .tally .result .free) 0 (omega (arith, c .if1 .taken))) (refl, refl)
 
 live-bounds-requires : tie.Need-live-bounds-requires
 live-bounds-requires c κs = search needs
@@ -70,7 +72,7 @@ returns-2 c =
     let first = c .before .before .before .before .before .before in
     let bounds = first .before .before in
     let tallied = bounds .before .before .before .before in
-    rw (full-here tallied ∙ eq-eqb _ _ (bounds .before .before .if1 .left)) (
+    rw (full-here tallied ∙ eq-eqb (tallied .tally .result .free) 0 (omega (arith, bounds .before .before .if1 .left))) (
       refl,
       run-then _ _ (_ ∷ []) (_ ∷ [])
           (run-program _ _ (first .program .ensures) (omega arith) (ap (λ (r : LiveBounds). r .least) (bounds .live-bounds .ensures)))

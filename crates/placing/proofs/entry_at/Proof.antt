@@ -1,21 +1,11 @@
 -- `placing::entry_at` meets its contract: it reads the entry where the definition has it.
 use mathlib.Core.Path.{ap}
-use Prim.Native.Nat.{_+_, _<_}
 use native.Mathlib.Omega.{arith}
-use lib.ListN.{length}
 use borrow.Author.Needs.{needs}
 use Rattle.image.specs.Words.{word, entry}
 use Rattle.flash.proofs.CodeLaws.{found-entry-inside}
 use Rattle.placing.proofs.entry_at.Statement.{statement}
 use Rattle.placing.proofs.entry_at.Tie as tie
-
--- the entry lies in the image
-inside : (c : tie.After-entries-start) →
-    let start = c .before .before .before .before .before in
-    c .entries-start .result + c .before .before .found .given .0 .1 .0 < length (start .args .image .now)
-inside c =
-    let start = c .before .before .before .before .before in
-    omega (arith, found-entry-inside _ _ (start .pre .0) (start .pre .1) (c .before .before .found .given .1))
 
 enum-known-found : tie.Need-enum-known-found
 enum-known-found c = search needs
@@ -26,13 +16,14 @@ entries-start-requires c κs =
     (start .pre .0 .limits, start .pre .1 .block _ _ (c .before .found .given .1))
 
 add-at : tie.Need-add-at
-add-at c = omega (arith, inside c)
+add-at c = omega (arith, found-entry-inside _ (c .before .before .before .before .before .pre) (c .before .before .found .given .1))
 
 mul-result : tie.Need-mul-result
-mul-result c = omega (arith, inside c)
+mul-result c = omega (arith, found-entry-inside _ (c .before .before .before .before .before .pre) (c .before .before .found .given .1))
 
 shared-slice-read-result : tie.Need-shared-slice-read-result
-shared-slice-read-result c = omega (arith, inside (c .before))
+shared-slice-read-result c =
+    omega (arith, found-entry-inside _ (c .before .before .before .before .before .before .pre) (c .before .before .before .found .given .1))
 
 enum-told : tie.Need-enum-told
 enum-told c = search needs

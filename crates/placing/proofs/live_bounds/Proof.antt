@@ -15,17 +15,13 @@ use Rattle.ranges.proofs.Searches.{best-le, best-ext, best-none}
 use Rattle.geometry.specs.Geometry.{d}
 use Rattle.image.specs.declared.Slot.{Slot}
 use Rattle.image.specs.declared.Slot.the-variants.{Live}
-use Rattle.image.specs.Words.{Image, word}
-use Rattle.image.specs.Slots.{slotOf, isLiveFor, liveIn}
-use Rattle.image.proofs.Reading.{entry-inside, slot-read}
+use Rattle.image.specs.Slots.{isLiveFor, liveIn}
+use Rattle.image.proofs.Entries.{live-parts}
+use Rattle.image.proofs.Reading.{entry-inside, slotFrom, slot-read}
 use Rattle.flash.specs.Placing.{leastLive, greatestLive}
-use Rattle.placing.proofs.BoundLaws.{orAt, first-more, last-one, last-more, live-below}
+use Rattle.placing.proofs.BoundLaws.{orAt, first-more, last-one, last-more}
 use Rattle.placing.proofs.live_bounds.Statement.{statement}
 use Rattle.placing.proofs.live_bounds.Tie as tie
-
--- slot j by the word that the code reads
-abbrev slotFrom : Image → ℕ → ℕ → ℕ → Slot
-slotFrom image logical entries j = slotOf logical (word image (entries + j))
 
 -- n is live in one of the first i slots
 abbrev liveAmong : (ℕ → Slot) → ℕ → ℕ → Bool
@@ -150,7 +146,7 @@ live-turn c least lower =
     let turn = read .before .before in
     let start = turn .before .before .before .before in
     let live = sym (known .before .before .slot-of .ensures) ∙ known .n .given .1 in
-    with-live (turn .loop .inv .1) live (live-below _ _ _ live) lower
+    with-live (turn .loop .inv .1) live (live-parts _ _ _ live .2) lower
     (λ e. ⊎-elim (λ w. omega arith) (⊎-elim (λ w. absurd (w .0 .left e)) (λ w. absurd (w .0 .left e))) (c .if1 .came))
     (λ e. ⊎-elim (λ w. omega arith) (⊎-elim (λ w. omega arith) (λ w. omega arith)) (c .if1 .came))
 

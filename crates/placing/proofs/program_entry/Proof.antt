@@ -1,21 +1,11 @@
 -- `placing::program_entry` meets its contract: it programs the entry where one was found, and else nothing.
 use mathlib.Core.Path.{refl}
-use Prim.Native.Nat.{_+_, _<_}
 use native.Mathlib.Omega.{arith}
-use lib.ListN.{length}
 use borrow.Author.Needs.{needs}
 use Rattle.flash.specs.Steps.{run, wordsIn}
 use Rattle.flash.proofs.CodeLaws.{found-entry-inside, run-program}
 use Rattle.placing.proofs.program_entry.Statement.{statement}
 use Rattle.placing.proofs.program_entry.Tie as tie
-
--- the entry lies in the image
-inside : (c : tie.After-entries-start) →
-    let start = c .before .before .before .before .before in
-    c .entries-start .result + c .before .before .found .given .0 .1 .0 < length (start .args .image .now)
-inside c =
-    let start = c .before .before .before .before .before in
-    omega (arith, found-entry-inside _ _ (start .pre .0) (start .pre .1) (c .before .before .found .given .1))
 
 enum-known-found : tie.Need-enum-known-found
 enum-known-found c = search needs
@@ -26,10 +16,11 @@ entries-start-requires c κs =
     (start .pre .0 .limits, start .pre .1 .block _ _ (c .before .found .given .1))
 
 add-at : tie.Need-add-at
-add-at c = omega (arith, inside c)
+add-at c = omega (arith, found-entry-inside _ (c .before .before .before .before .before .pre) (c .before .before .found .given .1))
 
 program-requires : tie.Need-program-requires
-program-requires c κs = omega (arith, inside (c .before))
+program-requires c κs =
+    omega (arith, found-entry-inside _ (c .before .before .before .before .before .before .pre) (c .before .before .before .found .given .1))
 
 enum-told : tie.Need-enum-told
 enum-told c = search needs

@@ -26,8 +26,8 @@ returns : tie.Need-returns
 unfolding releasing
 returns c =
     let invalid = c .before .before .before .before in
-    rw (← invalid .before .before .before .find .ensures, ← invalid .before .entry-at .ensures, ← invalid .clear-bit .ensures)
-    (c .before .before .program-entry .ensures)
+    rw (← invalid .before .before .before .find .ensures, ← invalid .before .entry-at .ensures)
+    (rw (invalid .clear-bit .ensures) at (c .before .before .program-entry .ensures))
 
 pub release-spec : {M : Type 1} → statement M
 release-spec =

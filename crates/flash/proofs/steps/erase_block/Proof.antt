@@ -66,7 +66,7 @@ returns c =
     let geo = start .args .geo in
     let b = start .args .b in
     lent-back from (from + lent .block-length .result) (place geo b 0) (place geo b (blockLength geo)) (blockLength geo) _ _ _
-    (lent .before .start .ensures)
+    (omega arith)
     (omega arith)
     (omega arith)
     (omega (arith, room start))

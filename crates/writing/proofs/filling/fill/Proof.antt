@@ -53,7 +53,7 @@ place-requires-2 c κs =
         start .pre .1 .1 .1 .0,
         (
           start .pre .1 .1 .1 .1,
-          (omega (arith, c .before .least-worn-blank .ensures), d-positive (start .args .geo) (start .pre .0 .limits)),
+          (omega (arith, c .before .least-worn-blank .ensures), omega (arith, d-positive (start .args .geo) (start .pre .0 .limits))),
         ),
       ),
     )

@@ -18,7 +18,7 @@ use Rattle.flash.specs.declared.Plan.the-variants.{Reclaim}
 use Rattle.flash.proofs.Filling.{Ready}
 use Rattle.flash.proofs.Planned.{plan-says}
 use Rattle.flash.proofs.Stores.{run-append, words-append}
-use Rattle.flash.proofs.Written.{Reclaimable, Sector, victim-reclaimable, blank-in, reclaim-ready, reclaim-blank, reclaiming-wrote}
+use Rattle.flash.proofs.Written.{Reclaimable, Sector, victim-reclaimable, blank-in, victim-in-place, reclaim-ready, reclaim-blank, reclaiming-wrote}
 use Rattle.writing.proofs.filling.reclaim_and_fill.Statement.{statement}
 use Rattle.writing.proofs.filling.reclaim_and_fill.Tie as tie
 
@@ -90,9 +90,16 @@ reclaim-requires c κs =
     let able = may geo image (start .args .v) (start .pre .0) (start .pre .1 .0) (start .pre .1 .1 .0) words in
     let set = ready geo image (start .args .v) (start .pre .0) (start .pre .1 .0) (start .pre .1 .1 .0) words in
     let must = plan-says geo image (start .args .v) (start .pre .1 .1 .0) .0 in
-    let blank = blank-in geo image set must (start .args .v) able in (
+    let blank = blank-in geo image set must (start .args .v) able in
+    let least = c .before .least-worn-blank .ensures in (
       start .pre .0,
-      (able .block, (omega (arith, c .before .least-worn-blank .ensures, blank), (c .before .least-worn-blank .ensures, able .wearable))),
+      (
+        omega (arith, able .block, least, blank),
+        (
+          omega (arith, able .block, least, blank),
+          (omega (arith, least), (omega (arith, able .wearable), rw least (victim-in-place geo image set must (start .args .v) able))),
+        ),
+      ),
     )
 
 fill-requires : tie.Need-fill-requires

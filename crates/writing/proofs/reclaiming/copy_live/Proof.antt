@@ -3,20 +3,21 @@
 use mathlib.Core.Logic.{⊎-elim}
 use mathlib.Core.List.{List}
 use mathlib.Core.Path.{_≡_, refl, sym, _∙_}
-use Prim.Native.Nat.{ℕ, _+_, _-_, _≤_}
+use Prim.Native.Nat.{ℕ, _+_, _-_, _≤_, _<_}
 use native.Mathlib.Omega.{arith}
 use native.Mathlib.Numerals.{add-one}
 use lib.ListN.{length}
 use borrow.Author.Needs.{needs}
 use Rattle.geometry.specs.declared.Geometry.{Geometry}
 use Rattle.geometry.specs.Geometry.{d}
+use Rattle.image.specs.declared.Found.the-variants.{At}
 use Rattle.image.specs.declared.Slot.{Slot}
 use Rattle.image.specs.declared.Slot.the-variants.{Live}
 use Rattle.image.specs.Words.{Image, Shaped, contents}
-use Rattle.image.specs.Slots.{slot}
+use Rattle.image.specs.Slots.{slot, find}
 use Rattle.flash.specs.Steps.{run, wordsIn}
 use Rattle.flash.specs.Placing.{placing}
-use Rattle.flash.specs.Writing.{copiedSlot, copying}
+use Rattle.flash.specs.Writing.{FoundInPlace, copiedSlot, copying}
 use Rattle.flash.proofs.Stores.{run-append, words-append}
 use Rattle.flash.proofs.CodeLaws.{still-shaped}
 use Rattle.placing.proofs.BoundLaws.{live-number, placing-most, copying-most}
@@ -35,6 +36,10 @@ module _ {geo : Geometry} {image₀ : Image} {v t i : ℕ} {image : Image} {word
   next : {s : Slot} → slot geo image v i ≡ s → copying geo image₀ v t (i + 1) ≡ copiedSlot geo image v t i (copying geo image₀ v t i) s
   unfolding copying
   next e = rw (add-one, ← before .image-is, e)
+
+  -- a live slot is where its number is found now
+  in-place : {n : ℕ} → FoundInPlace geo image₀ v t → i < d geo → slot geo image v i ≡ Live n → At v i ≡ find geo image n
+  in-place {n} turns l e = sym (rw (before .image-is) (turns .at-its-turn i n l (rw (before .image-is) at e)))
 
   -- a slot that changes nothing
   passed : copying geo image₀ v t (i + 1) ≡ copying geo image₀ v t i → Copying geo image₀ v t (i + 1) image words taken
@@ -79,6 +84,10 @@ room c =
     let a = c .before .before .before .args in
     omega (arith, c .loop .inv .1 .taken-is, copying-most (a .geo) (a .image .now) (a .v) (a .t) (c .loop .i) .1)
 
+-- the words of one placing are few, whichever the slot
+few : (geo : Geometry) (image : Image) (n : ℕ) (ws : List ℕ) (b i words : ℕ) → words ≡ wordsIn (placing geo image n ws b i) → words ≤ 135
+few geo image n ws b i words e = omega (arith, placing-most geo image n ws b i)
+
 -- the slot of this turn is live for the number that the code found in it
 live : (c : tie.After-n Inv-loop μ-loop) →
     let turn = c .before .before .before .before .before in
@@ -107,16 +116,25 @@ copy-contents-requires : tie.Need-copy-contents-requires Inv-loop μ-loop
 copy-contents-requires c κs =
     (shaped (c .before .before .before .before .before .before .before .before), omega arith)
 
-slice-aggregate-place : tie.Need-slice-aggregate-place Inv-loop μ-loop
-slice-aggregate-place c = sym (c .before .before .before .copy-contents .kept .1 .1 .1 .1 .0)
+slice-aggregate-place-over : tie.Need-slice-aggregate-place-over Inv-loop μ-loop
+slice-aggregate-place-over c = sym (c .before .before .before .copy-contents .kept .1 .1 .1 .1 .0)
 
-place-requires : tie.Need-place-requires Inv-loop μ-loop
-place-requires c κs =
+place-over-requires : tie.Need-place-over-requires Inv-loop μ-loop
+place-over-requires c κs =
     let buffer = c .before .before .before in
     let known = buffer .before .before .before .before in
     let turn = known .before .before .before .before .before in (
       shaped turn,
-      (live-number _ _ _ _ _ (live known), (buffer .copy-contents .kept .1 .1 .1 .1 .0, omega (arith, room turn))),
+      (
+        live-number _ _ _ _ _ (live known),
+        (
+          buffer .copy-contents .kept .1 .1 .1 .1 .0,
+          (
+            omega arith,
+            (omega (arith, room turn), in-place (turn .loop .inv .1) (turn .before .before .before .pre .1 .1 .1) (omega arith) (live known)),
+          ),
+        ),
+      ),
     )
 
 add-words : tie.Need-add-words Inv-loop μ-loop
@@ -130,11 +148,7 @@ add-words c =
       start .pre .0 .limits,
       turn .loop .inv .1 .words-is,
       copying-most (a .geo) (a .image .now) (a .v) (a .t) (turn .loop .i) .0,
-      placed .place .ensures .0,
-      placing-most (a .geo) (turn .loop .image) (placed .before .before .before .before .before .before .before .before .n .given .0 .0)
-          (placed .before .before .before .before .copy-contents .last .1 .1 .1 .1 .0)
-          (a .t)
-          (turn .loop .taken),
+      few _ _ _ _ _ _ _ (placed .place-over .ensures .0),
     )
 
 add-taken : tie.Need-add-taken Inv-loop μ-loop
@@ -195,8 +209,8 @@ copy-live-spec =
     enum-known-n
     slice-aggregate-copy-contents
     copy-contents-requires
-    slice-aggregate-place
-    place-requires
+    slice-aggregate-place-over
+    place-over-requires
     add-words
     add-taken
     enum-told

@@ -62,10 +62,9 @@ returns c =
         run-append,
         ← target,
         ← copied .copy-live .ensures .1,
-        ← erased .erase-block .ensures,
         ← started .start .ensures,
         ← known .erase-count .ensures,
-      ) (counted .program .ensures),
+      ) (rw (erased .erase-block .ensures) at (counted .program .ensures)),
     )
 
 pub reclaim-spec : {M : Type 1} → statement M
