@@ -3,7 +3,6 @@
 // on either side of the ceiling. The file stdout is what the document says of each.
 use geometry::Geometry;
 use libc::STDOUT_FILENO;
-use shellwaltz::Answer;
 
 // d is 15 and k is 1: a block has 2,048 words, its map is word 3, its entries are words 4 to 18.
 fn geo() -> Geometry {
@@ -11,19 +10,6 @@ fn geo() -> Geometry {
         blocks: 8,
         sectors: 16,
         logical: 90,
-    }
-}
-
-// The document's number of an answer.
-fn number(answer: Answer) -> u32 {
-    match answer {
-        Answer::Accepted => 0,
-        Answer::BadGeometry => 1,
-        Answer::BadBuffer => 2,
-        Answer::BadNumber => 3,
-        Answer::Malformed => 4,
-        Answer::Unmapped => 5,
-        Answer::WornOut => 6,
     }
 }
 
@@ -70,130 +56,107 @@ fn get(image: &[u32], b: usize, word: usize) -> u32 {
     0
 }
 
-// Puts an entry in slot 0 of block b and clears its map bit.
-fn take_first(image: &mut [u32], b: usize, entry: u32) {
-    set(image, b, 3, 0xFFFFFFFE);
-    set(image, b, 4, entry);
+// Stores block b's map word, and one word more of the block.
+fn put(image: &mut [u32], b: usize, map: u32, word: usize, value: u32) {
+    set(image, b, 3, map);
+    set(image, b, word, value);
 }
 
-// Puts an entry in slot 14, the last, of block b and clears its map bit.
-fn take_last(image: &mut [u32], b: usize, entry: u32) {
-    set(image, b, 3, 0xFFFFBFFF);
-    set(image, b, 18, entry);
+// Stores the same word in every block.
+fn set_all(image: &mut [u32], word: usize, value: u32) {
+    set(image, 0, word, value);
+    set(image, 1, word, value);
+    set(image, 2, word, value);
+    set(image, 3, word, value);
+    set(image, 4, word, value);
+    set(image, 5, word, value);
+    set(image, 6, word, value);
+    set(image, 7, word, value);
 }
 
 fn fresh(image: &mut [u32]) {
     shellwaltz::format(image, geo());
 }
 
-// The end of a case's line: what check answers of the image.
-fn tell(image: &[u32]) {
+// A case's line: its name, the rule's number, and what check answers of the image.
+fn tell(image: &[u32], name: &[u8], rule: u32) {
     let answer = shellwaltz::check(image, geo());
-    and(number(answer));
+    text(name);
+    show(rule);
+    and(shellwaltz::number(answer));
     end_line();
+}
+
+// Two words of block b that break the rule.
+fn broken(image: &mut [u32], rule: u32, b: usize, map: u32, word: usize, value: u32) {
+    put(image, b, map, word, value);
+    tell(image, b"R", rule);
+}
+
+// Two that make the image sound again.
+fn sound(image: &mut [u32], rule: u32, b: usize, map: u32, word: usize, value: u32) {
+    put(image, b, map, word, value);
+    tell(image, b"ok", rule);
 }
 
 // R1: a count one above the ceiling; at the ceiling.
 fn rule1(image: &mut [u32]) {
     fresh(image);
-    set(image, 0, 0, 1000001);
-    text(b"R1");
-    tell(image);
-    set(image, 0, 0, 1000000);
-    text(b"ok1");
-    tell(image);
+    broken(image, 1, 0, 0xFFFFFFFF, 0, 1000001);
+    sound(image, 1, 0, 0xFFFFFFFF, 0, 1000000);
 }
 
 // R2: a map bit cleared over a free entry; over a dead one.
 fn rule2(image: &mut [u32]) {
     fresh(image);
-    set(image, 0, 3, 0xFFFFFFFE);
-    text(b"R2");
-    tell(image);
-    set(image, 0, 4, 0x00000005);
-    text(b"ok2");
-    tell(image);
+    broken(image, 2, 0, 0xFFFFFFFE, 4, 0xFFFFFFFF);
+    sound(image, 2, 0, 0xFFFFFFFE, 4, 0x00000005);
 }
 
 // R2: the map bit after the last slot's cleared; the last slot's, over a dead entry.
 fn rule2_above(image: &mut [u32]) {
     fresh(image);
-    set(image, 0, 3, 0xFFFF7FFF);
-    text(b"R2");
-    tell(image);
-    take_last(image, 0, 0x00000005);
-    text(b"ok2");
-    tell(image);
+    broken(image, 2, 0, 0xFFFF7FFF, 18, 0xFFFFFFFF);
+    sound(image, 2, 0, 0xFFFFBFFF, 18, 0x00000005);
 }
 
 // R3: the last word of the image programmed, its slot free; its slot dead.
 fn rule3(image: &mut [u32]) {
     fresh(image);
-    set(image, 7, 2047, 0xFFFFFFFE);
-    text(b"R3");
-    tell(image);
-    take_last(image, 7, 0x00000005);
-    text(b"ok3");
-    tell(image);
+    broken(image, 3, 7, 0xFFFFFFFF, 2047, 0xFFFFFFFE);
+    sound(image, 3, 7, 0xFFFFBFFF, 18, 0x00000005);
 }
 
 // R4: an entry like a live one with the number L; with L - 1.
 fn rule4(image: &mut [u32]) {
     fresh(image);
-    take_first(image, 0, 0xC000005A);
-    text(b"R4");
-    tell(image);
-    take_first(image, 0, 0xC0000059);
-    text(b"ok4");
-    tell(image);
+    broken(image, 4, 0, 0xFFFFFFFE, 4, 0xC000005A);
+    sound(image, 4, 0, 0xFFFFFFFE, 4, 0xC0000059);
 }
 
 // R5: 5 live in two blocks; in one, and released in the other.
 fn rule5(image: &mut [u32]) {
     fresh(image);
-    take_first(image, 0, 0xC0000005);
-    take_first(image, 1, 0xC0000005);
-    text(b"R5");
-    tell(image);
-    take_first(image, 1, 0x40000005);
-    text(b"ok5");
-    tell(image);
-}
-
-// Gives slot 0 of every block a dead entry.
-fn open_all(image: &mut [u32]) {
-    take_first(image, 0, 0x00000005);
-    take_first(image, 1, 0x00000005);
-    take_first(image, 2, 0x00000005);
-    take_first(image, 3, 0x00000005);
-    take_first(image, 4, 0x00000005);
-    take_first(image, 5, 0x00000005);
-    take_first(image, 6, 0x00000005);
-    take_first(image, 7, 0x00000005);
+    put(image, 0, 0xFFFFFFFE, 4, 0xC0000005);
+    broken(image, 5, 1, 0xFFFFFFFE, 4, 0xC0000005);
+    sound(image, 5, 1, 0xFFFFFFFE, 4, 0x40000005);
 }
 
 // R6: every block open; the last one blank.
 fn rule6(image: &mut [u32]) {
     fresh(image);
-    open_all(image);
-    text(b"R6");
-    tell(image);
-    set(image, 7, 3, 0xFFFFFFFF);
-    set(image, 7, 4, 0xFFFFFFFF);
-    text(b"ok6");
-    tell(image);
+    set_all(image, 3, 0xFFFFFFFE);
+    set_all(image, 4, 0x00000005);
+    tell(image, b"R", 6);
+    sound(image, 6, 7, 0xFFFFFFFF, 4, 0xFFFFFFFF);
 }
 
 // R7: word 1 programmed in an open block; all ones.
 fn rule7_open(image: &mut [u32]) {
     fresh(image);
-    take_first(image, 0, 0xC0000005);
-    set(image, 0, 1, 5);
-    text(b"R7");
-    tell(image);
-    set(image, 0, 1, 0xFFFFFFFF);
-    text(b"ok7");
-    tell(image);
+    set(image, 0, 4, 0xC0000005);
+    broken(image, 7, 0, 0xFFFFFFFE, 1, 5);
+    sound(image, 7, 0, 0xFFFFFFFE, 1, 0xFFFFFFFF);
 }
 
 // Gives every slot of block 0 a dead entry.
@@ -218,12 +181,8 @@ fn fill(image: &mut [u32]) {
 fn rule7_full(image: &mut [u32]) {
     fresh(image);
     fill(image);
-    set(image, 0, 1, 6);
-    text(b"R7");
-    tell(image);
-    set(image, 0, 1, 5);
-    text(b"ok7");
-    tell(image);
+    broken(image, 7, 0, 0xFFFF8000, 1, 6);
+    sound(image, 7, 0, 0xFFFF8000, 1, 5);
 }
 
 // Writes sector n, every word of it `fill`.
@@ -232,8 +191,9 @@ fn write(image: &mut [u32], n: u32, fill: u32) -> shellwaltz::Outcome {
     shellwaltz::write(image, geo(), n, &buffer)
 }
 
-// What follows the letter of a record's line.
-fn record(n: u32, answer: u32, words: u32, erasures: u32, first: u32) {
+// A record's line.
+fn record(letter: &[u8], n: u32, answer: u32, words: u32, erasures: u32, first: u32) {
+    text(letter);
     and(n);
     and(answer);
     and(words);
@@ -242,28 +202,34 @@ fn record(n: u32, answer: u32, words: u32, erasures: u32, first: u32) {
     end_line();
 }
 
-fn write_line(image: &mut [u32], n: u32, fill: u32) {
-    let r = write(image, n, fill);
+// That of a call which changes the image.
+fn outcome_line(letter: &[u8], n: u32, r: shellwaltz::Outcome) {
     let answer = r.answer;
-    text(b"W");
-    record(n, number(answer), r.words, r.erasures, 0);
+    record(
+        letter,
+        n,
+        shellwaltz::number(answer),
+        r.words,
+        r.erasures,
+        0,
+    );
+}
+
+fn write_line(image: &mut [u32], n: u32, fill: u32) {
+    outcome_line(b"W", n, write(image, n, fill));
 }
 
 fn read_line(image: &[u32], n: u32, buffer: &mut [u32]) {
-    let answer = number(shellwaltz::read(image, geo(), n, buffer));
+    let answer = shellwaltz::number(shellwaltz::read(image, geo(), n, buffer));
     let mut first = 0;
     if answer == 0 {
         first = get(buffer, 0, 0);
     }
-    text(b"R");
-    record(n, answer, 0, 0, first);
+    record(b"R", n, answer, 0, 0, first);
 }
 
 fn release_line(image: &mut [u32], n: u32) {
-    let r = shellwaltz::release(image, geo(), n);
-    let answer = r.answer;
-    text(b"D");
-    record(n, number(answer), r.words, r.erasures, 0);
+    outcome_line(b"D", n, shellwaltz::release(image, geo(), n));
 }
 
 fn totals_line(image: &[u32]) {
@@ -327,27 +293,15 @@ fn first_erasure(image: &mut [u32]) {
     end_line();
 }
 
-// Gives every block the same erase count.
-fn set_counts(image: &mut [u32], count: u32) {
-    set(image, 0, 0, count);
-    set(image, 1, 0, count);
-    set(image, 2, 0, count);
-    set(image, 3, 0, count);
-    set(image, 4, 0, count);
-    set(image, 5, 0, count);
-    set(image, 6, 0, count);
-    set(image, 7, 0, count);
-}
-
 // The write after 105 of sector 0, when no block is open and one is blank: blocks 0 to 5 have 15 dead slots, so with the
 // counts alike block 0 is the victim.
 fn victim(image: &mut [u32], count: u32) {
     fresh(image);
     write_on(image, 105);
-    set_counts(image, count);
+    set_all(image, 0, count);
     let r = write(image, 0, 106);
     let answer = r.answer;
-    show(number(answer));
+    show(shellwaltz::number(answer));
     and(r.words);
     and(r.erasures);
     end_line();

@@ -1,8 +1,9 @@
 -- What a write and a release report and leave, by their answer: laws that the proofs of the two calls share. Assumes nothing.
 use mathlib.Core.Path.{_≡_, sym, ap, _∙_}
-use mathlib.Core.Logic.{_≢_}
+use mathlib.Core.Bool.{true}
 use mathlib.Core.List.{List, []}
-use Prim.Native.Nat.{ℕ}
+use Prim.Native.Nat.{ℕ, _<_}
+use native.Mathlib.Omega.{arith}
 use Rattle.geometry.specs.declared.Geometry.{Geometry}
 use Rattle.image.specs.Words.{Image}
 use Rattle.flash.specs.Steps.{Step, run, wordsIn, erasuresIn}
@@ -10,17 +11,23 @@ use Rattle.flash.proofs.Stores.{run-none}
 use Rattle.shellwaltz.specs.declared.Answer.{Answer}
 use Rattle.shellwaltz.specs.declared.Answer.the-variants.{Accepted}
 use Rattle.shellwaltz.specs.declared.Outcome.{Outcome}
+use Rattle.shellwaltz.specs.Refusals.{Row, numberOf, firstThatApplies}
 use Rattle.shellwaltz.specs.Calls.{ifAccepted, outcome}
-use Rattle.shellwaltz.proofs.Rows.{if-accepted, if-refused}
+use Rattle.shellwaltz.proofs.Rows.{ascends, FirstIs, first-is, first-above, if-accepted, if-refused}
 
 -- a call whose steps are these where it is accepted, and none where it is refused
 module _ (geo : Geometry) (image : Image) (answer : Answer) (steps : List Step) where
   abbrev done : List Step
   done = ifAccepted answer steps []
 
-  pub left-alone : (a : Answer) (r : Outcome) → answer ≡ a → a ≢ Accepted → r ≡ outcome a [] → (r ≡ outcome answer done) × (image ≡ run geo image done)
-  left-alone a r e n q =
-      let none = if-refused answer steps [] (λ p. n (sym e ∙ p)) in
+  pub left-alone :
+      {a : Answer} {r : Outcome} →
+      answer ≡ a →
+      0 < numberOf a →
+      r ≡ outcome a [] →
+      (r ≡ outcome answer done) × (image ≡ run geo image done)
+  left-alone e n q =
+      let none = if-refused answer steps [] (λ p. omega (arith, ap numberOf (sym e ∙ p))) in
       (q ∙ ap (λ (x : Answer). outcome x []) (sym e) ∙ ap (outcome answer) (sym none), sym (ap (run geo image) none ∙ run-none geo image))
 
   pub carried-out :
@@ -33,3 +40,13 @@ module _ (geo : Geometry) (image : Image) (answer : Answer) (steps : List Step) 
   carried-out words erasures after e p q r =
       let all = if-accepted steps [] e in
       (rw (all, p, q, e), r ∙ ap (run geo image) (sym all))
+
+-- a call that gives the refusal of the first row that applies
+pub refused-by :
+    (geo : Geometry) (image : Image) (rows : List Row) (steps : List Step) {a : Answer} {r : Outcome} →
+    ascends 0 rows ≡ true →
+    FirstIs rows a →
+    r ≡ outcome a [] →
+    (r ≡ outcome (firstThatApplies rows) (ifAccepted (firstThatApplies rows) steps []))
+    × (image ≡ run geo image (ifAccepted (firstThatApplies rows) steps []))
+refused-by geo image rows steps up f = left-alone geo image (firstThatApplies rows) steps (first-is f) (first-above 0 f up)

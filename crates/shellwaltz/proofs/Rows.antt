@@ -91,6 +91,23 @@ none-applies k (r ∷ rs) e t = go (r .applies) refl (λ q. none-applies (number
         omega (arith, ap numberOf given, ltb-true k (numberOf (r .refusal)) (both .0)))
     go false p ih = (p, ih (rw p at e))
 
+-- the first row that applies: this one, or one after it
+pub data FirstIs : List Row → Answer → Type 0 where
+  here : {r : Row} {rs : List Row} → r .applies ≡ true → FirstIs (r ∷ rs) (r .refusal)
+  later : {r : Row} {rs : List Row} {a : Answer} → r .applies ≡ false → FirstIs rs a → FirstIs (r ∷ rs) a
+
+pub first-is : {rows : List Row} {a : Answer} → FirstIs rows a → firstThatApplies rows ≡ a
+first-is (here t) = rw t
+first-is (later t f) = rw t (first-is f)
+
+-- where the rows' numbers ascend from above k, its number is above k
+pub first-above : (k : ℕ) {rows : List Row} {a : Answer} → FirstIs rows a → ascends k rows ≡ true → k < numberOf a
+first-above k (here {r} {rs} h) t =
+    ltb-true k (numberOf (r .refusal)) (both-pass (ltb k (numberOf (r .refusal))) (ascends (numberOf (r .refusal)) rs) t .0)
+first-above k (later {r} {rs} h f) t =
+    let both = both-pass (ltb k (numberOf (r .refusal))) (ascends (numberOf (r .refusal)) rs) t in
+    omega (arith, ltb-true k (numberOf (r .refusal)) (both .0), first-above (numberOf (r .refusal)) f (both .1))
+
 -- what a call gives
 pub if-accepted {ℓ} : {A : Type ℓ} {a : Answer} (x y : A) → a ≡ Accepted → ifAccepted a x y ≡ x
 if-accepted x y e = rw e

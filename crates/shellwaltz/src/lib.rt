@@ -8,7 +8,7 @@ ghost use lib.ListN.{length};
 ghost use Rattle.geometry.specs.Geometry.{imageLength, withinLimits};
 ghost use Rattle.image.specs.Words.{Shaped};
 ghost use Rattle.image.specs.WellFormed.{wellFormed};
-ghost use Rattle.shellwaltz.specs.Refusals.{checkAnswer, readAnswer};
+ghost use Rattle.shellwaltz.specs.Refusals.{numberOf, checkAnswer, readAnswer};
 ghost use Rattle.shellwaltz.specs.Calls.{countsZeroed, formatOutcome, formatted, totalsOf, reported, readBuffer, outcome, writeOutcome, written, releaseOutcome, released};
 use flash::Plan;
 use geometry::Geometry;
@@ -23,6 +23,21 @@ pub enum Answer {
     Malformed,
     Unmapped,
     WornOut,
+}
+
+// The paper's number of an answer.
+pub fn number(answer: Answer) -> u32
+    ensures { λ r. ⌜ r ≡ numberOf answer ⌝ }
+{
+    match answer {
+        Answer::Accepted => 0,
+        Answer::BadGeometry => 1,
+        Answer::BadBuffer => 2,
+        Answer::BadNumber => 3,
+        Answer::Malformed => 4,
+        Answer::Unmapped => 5,
+        Answer::WornOut => 6,
+    }
 }
 
 // What format, write and release report: the words programmed and the blocks erased.

@@ -92,22 +92,22 @@ tally-requires : tie.Need-tally-requires Inv-loop μ-loop
 tally-requires c κs = search needs
 
 cast-mapped : tie.Need-cast-mapped Inv-loop μ-loop
-cast-mapped c = omega (arith, counted (c .before) .0)
+cast-mapped c = omega (arith, counted (c .before))
 
 add-mapped : tie.Need-add-mapped Inv-loop μ-loop
-add-mapped c = omega (arith, counted (c .before) .0)
+add-mapped c = omega (arith, counted (c .before))
 
 cast-free : tie.Need-cast-free Inv-loop μ-loop
-cast-free c = omega (arith, counted (c .before .before) .1)
+cast-free c = omega (arith, counted (c .before .before))
 
 add-free : tie.Need-add-free Inv-loop μ-loop
-add-free c = omega (arith, counted (c .before .before) .1)
+add-free c = omega (arith, counted (c .before .before))
 
 cast-dead : tie.Need-cast-dead Inv-loop μ-loop
-cast-dead c = omega (arith, counted (c .before .before .before) .2)
+cast-dead c = omega (arith, counted (c .before .before .before))
 
 add-dead : tie.Need-add-dead Inv-loop μ-loop
-add-dead c = omega (arith, counted (c .before .before .before) .2)
+add-dead c = omega (arith, counted (c .before .before .before))
 
 erase-count-requires : tie.Need-erase-count-requires Inv-loop μ-loop
 erase-count-requires c κs = search needs

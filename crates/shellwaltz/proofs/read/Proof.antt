@@ -2,6 +2,7 @@
 use mathlib.Core.Path.{_≡_, refl, sym, _∙_}
 use mathlib.Core.Bool.{false}
 use mathlib.Core.List.{[], _∷_}
+use native.Mathlib.Omega.{arith}
 use borrow.Author.Needs.{needs}
 use borrow.Author.Tests.{eq-eqb, ne-eqb, le-leb, lt-leb}
 use Rattle.image.specs.declared.Found.the-variants.{At}
@@ -27,10 +28,10 @@ left4 c =
     let third = c .before .before in
     let second = third .before .before in
     let args = second .before .before .before .before .before .args in
-    past-four _ _ _ (args .buffer .now) (row5 (args .geo) (args .image .now) (args .n) ∷ [])
+    past-four (args .geo) (args .image .now) (args .n) (args .buffer .now) (row5 (args .geo) (args .image .now) (args .n) ∷ [])
     (left1 (second .before))
-    (second .if2 .left)
-    (third .if3 .left)
+    (omega (arith, second .if2 .left))
+    (omega (arith, third .if3 .left))
     (as-tested (c .before .well-formed .ensures) (c .if4 .left))
 
 -- where the number was found
@@ -85,7 +86,7 @@ copy-contents-requires c κs =
     let at = c .before .before in
     let second = at .before .before .before .before .before .before .before in
     let live = found-live _ _ _ _ _ (found at) in
-    (shaped-left _ _ (left1 (second .before)), (live .block, (live .slot-of, second .if2 .left)))
+    (shaped-left _ _ (left1 (second .before)), (omega (arith, live .block), (omega (arith, live .slot-of), second .if2 .left)))
 
 enum-told : tie.Need-enum-told
 enum-told c = search needs

@@ -1,6 +1,7 @@
 -- `shellwaltz::release` meets its contract: its tests are rows 1, 3, 4 and 5, asked in that order; row 5 applies where no word was programmed.
 use mathlib.Core.Path.{_≡_, refl, sym, ap, _∙_}
 use mathlib.Core.Bool.{false}
+use mathlib.Core.List.{[]}
 use Prim.Native.Nat.{ℕ}
 use native.Mathlib.Omega.{arith}
 use borrow.Author.Needs.{needs}
@@ -15,11 +16,13 @@ use Rattle.flash.specs.Steps.{wordsIn}
 use Rattle.flash.specs.Placing.{releasing}
 use Rattle.flash.proofs.Counts.{isAt, releasing-words, releasing-erasures}
 use Rattle.flash.proofs.Stores.{run-none}
-use Rattle.shellwaltz.specs.declared.Answer.the-variants.{BadGeometry, BadNumber, Malformed, Unmapped}
-use Rattle.shellwaltz.specs.Refusals.{row1, row4, isNothing, releaseAnswer}
-use Rattle.shellwaltz.specs.Calls.{releaseSteps}
+use Rattle.shellwaltz.specs.declared.Answer.{Answer}
+use Rattle.shellwaltz.specs.declared.Outcome.{Outcome}
+use Rattle.shellwaltz.specs.Refusals.{row1, row4, isNothing, releaseRows, releaseAnswer}
+use Rattle.shellwaltz.specs.Calls.{outcome, releaseSteps, releaseOutcome, released}
 use Rattle.shellwaltz.proofs.CallLaws.{as-tested, shaped-left}
-use Rattle.shellwaltz.proofs.Changing.{left-alone, carried-out}
+use Rattle.shellwaltz.proofs.Rows.{FirstIs, here, later}
+use Rattle.shellwaltz.proofs.Changing.{carried-out, refused-by}
 use Rattle.shellwaltz.proofs.release.Statement.{statement}
 use Rattle.shellwaltz.proofs.release.Tie as tie
 
@@ -38,6 +41,15 @@ something-found geo image n words p z = go (find geo image n) refl
     go (At b i) e = rw e
     go Nothing e = absurd (z (p ∙ releasing-words geo image n ∙ ap (λ (f : Found). one-if (isAt f)) e))
 
+-- a release that a row refuses
+refuses :
+    (geo : Geometry) (image : Image) (n : ℕ) {a : Answer} {r : Outcome} →
+    FirstIs (releaseRows geo image n) a →
+    r ≡ outcome a [] →
+    (r ≡ releaseOutcome geo image n) × (image ≡ released geo image n)
+unfolding releaseAnswer releaseSteps
+refuses geo image n = refused-by geo image (releaseRows geo image n) (releasing geo image n) refl
+
 -- past the first test, and past the third
 left1 : (c : tie.Else1) → let start = c .before .before .before .before in row1 (start .args .geo) (start .args .image .now) .applies ≡ false
 left1 c = as-tested (c .before .fits2 .ensures) (c .if1 .left)
@@ -55,9 +67,8 @@ same-length : tie.Need-same-length
 same-length c = search needs
 
 returns : tie.Need-returns
-unfolding releaseAnswer releaseSteps
 returns c =
-    left-alone _ _ _ _ BadGeometry (c .refused .result) (rw (as-tested (c .before .before .fits2 .ensures) (c .before .if1 .taken))) (λ e. let z : _≡_ {A = ℕ} 0 1 = cc in omega arith) (c .refused .ensures)
+    refuses _ _ _ (here (as-tested (c .before .before .fits2 .ensures) (c .before .if1 .taken))) (c .refused .ensures)
 
 refused-requires-2 : tie.Need-refused-requires-2
 refused-requires-2 c κs = search needs
@@ -66,11 +77,8 @@ same-length-2 : tie.Need-same-length-2
 same-length-2 c = search needs
 
 returns-2 : tie.Need-returns-2
-unfolding releaseAnswer releaseSteps
 returns-2 c =
-    left-alone _ _ _ _ BadNumber (c .refused2 .result)
-    (rw (left1 (c .before .before .before), le-leb _ _ (c .before .if2 .taken)))
-    (λ e. let z : _≡_ {A = ℕ} 0 1 = cc in omega arith) (c .refused2 .ensures)
+    refuses _ _ _ (later (left1 (c .before .before .before)) (here (le-leb _ _ (c .before .if2 .taken)))) (c .refused2 .ensures)
 
 well-formed-requires : tie.Need-well-formed-requires
 well-formed-requires c κs = shaped-left _ _ (left1 (c .before .before .before))
@@ -82,12 +90,13 @@ same-length-3 : tie.Need-same-length-3
 same-length-3 c = search needs
 
 returns-3 : tie.Need-returns-3
-unfolding releaseAnswer releaseSteps
 returns-3 c =
     let second = c .before .before .before .before in
-    left-alone _ _ _ _ Malformed (c .refused3 .result)
-    (rw (left1 (second .before .before), lt-leb _ _ (second .if2 .left), as-tested (c .before .before .well-formed .ensures) (c .before .if3 .taken)))
-    (λ e. let z : _≡_ {A = ℕ} 0 1 = cc in omega arith) (c .refused3 .ensures)
+    refuses _ _ _
+    (later (left1 (second .before .before))
+    (later (lt-leb _ _ (second .if2 .left))
+    (here (as-tested (c .before .before .well-formed .ensures) (c .before .if3 .taken)))))
+    (c .refused3 .ensures)
 
 release-requires : tie.Need-release-requires
 release-requires c κs =
@@ -101,18 +110,22 @@ same-length-4 : tie.Need-same-length-4
 same-length-4 c = search needs
 
 returns-4 : tie.Need-returns-4
-unfolding releaseAnswer releaseSteps releasing
+unfolding releasing
 returns-4 c =
     let start = c .before .before .before .before .before .before .before .before .before .before .before .before .before .before .before in
     let done = c .before .before .before .before .release in
     let third = c .before .before .before .before .before .before in
     let second = third .before .before .before in
-    let none = nothing-found (start .args .geo) (start .args .image .now) (start .args .n) (done .result) (done .ensures .0) (c .before .if4 .taken) in
+    let none =
+    nothing-found (start .args .geo) (start .args .image .now) (start .args .n) (done .result) (done .ensures .0)
+    (omega (arith, c .before .if4 .taken)) in
     let left =
-    left-alone (start .args .geo) (start .args .image .now) (releaseAnswer (start .args .geo) (start .args .image .now) (start .args .n)) (releasing (start .args .geo) (start .args .image .now) (start .args .n))
-    Unmapped (c .refused4 .result)
-    (rw (left1 (second .before .before), lt-leb _ _ (second .if2 .left), left3 third, none))
-    (λ e. let z : _≡_ {A = ℕ} 0 1 = cc in omega arith) (c .refused4 .ensures) in
+    refuses (start .args .geo) (start .args .image .now) (start .args .n)
+    (later (left1 (second .before .before))
+    (later (lt-leb _ _ (second .if2 .left))
+    (later (left3 third)
+    (here (ap isNothing none)))))
+    (c .refused4 .ensures) in
     (left .0, done .ensures .1 ∙ rw none (run-none _ _) ∙ left .1)
 
 same-length-5 : tie.Need-same-length-5
@@ -126,7 +139,7 @@ returns-5 c =
     let third = c .before .before .before .before .before in
     let second = third .before .before .before in
     let found = something-found (start .args .geo) (start .args .image .now) (start .args .n) (done .result) (done .ensures .0) (c .if4 .left) in
-    carried-out _ _ _ _ (done .result) 0 (done .last .0)
+    carried-out _ _ _ _ (done .result) _ (done .last .0)
     (rw (left1 (second .before .before), lt-leb _ _ (second .if2 .left), left3 third, found))
     (done .ensures .0)
     (sym (releasing-erasures (start .args .geo) (start .args .image .now) (start .args .n)))

@@ -1,6 +1,6 @@
 -- `shellwaltz::write` meets its contract: its tests are rows 1, 2, 3, 4 and 6, asked in that order, and the plan says which steps are carried out.
-use mathlib.Core.Path.{_≡_, sym, ap, _∙_}
-use mathlib.Core.Bool.{true, false}
+use mathlib.Core.Path.{_≡_, refl, sym, ap, _∙_}
+use mathlib.Core.Bool.{true, false, not}
 use mathlib.Core.List.{List, [], _∷_}
 use Prim.Native.Nat.{ℕ, _<_}
 use native.Mathlib.Omega.{arith}
@@ -13,22 +13,34 @@ use Rattle.image.specs.Words.{Image, Shaped, Words32}
 use Rattle.image.specs.WellFormed.{wellFormed}
 use Rattle.image.proofs.Facts.{sound-maps}
 use Rattle.image.specs.Blocks.{victim}
-use Rattle.flash.specs.Steps.{run, wordsIn, erasuresIn}
-use Rattle.flash.specs.Writing.{reclaimingFirst}
+use Rattle.flash.specs.declared.Plan.the-variants.{Reclaim}
+use Rattle.flash.specs.Steps.{run, erasuresIn}
+use Rattle.flash.specs.Writing.{reclaimingFirst, writing}
 use Rattle.flash.proofs.Planned.{plan-says, fill-says, worn-says, writing-fills, writing-reclaims, filling-erases-nothing}
 use Rattle.flash.proofs.Written.{victim-in, victim-reclaimable, reclaiming-once}
-use Rattle.shellwaltz.specs.declared.Answer.the-variants.{BadGeometry, BadBuffer, BadNumber, Malformed, WornOut}
-use Rattle.shellwaltz.specs.Refusals.{firstThatApplies, row1, row6, writeAnswer}
-use Rattle.shellwaltz.specs.Calls.{writeSteps}
+use Rattle.shellwaltz.specs.declared.Answer.{Answer}
+use Rattle.shellwaltz.specs.declared.Outcome.{Outcome}
+use Rattle.shellwaltz.specs.Refusals.{firstThatApplies, row1, row6, writeRows, writeAnswer}
+use Rattle.shellwaltz.specs.Calls.{outcome, writeSteps, writeOutcome, written}
 use Rattle.shellwaltz.proofs.CallLaws.{as-tested, shaped-left, past-four}
+use Rattle.shellwaltz.proofs.Rows.{FirstIs, here, later}
 use Rattle.shellwaltz.proofs.Accepted.{formed-ready}
-use Rattle.shellwaltz.proofs.Changing.{left-alone, carried-out}
+use Rattle.shellwaltz.proofs.Changing.{left-alone, carried-out, refused-by}
 use Rattle.shellwaltz.proofs.write.Statement.{statement}
 use Rattle.shellwaltz.proofs.write.Tie as tie
 
 -- past the first test
 left1 : (c : tie.Else1) → let start = c .before .before .before .before .before in row1 (start .args .geo) (start .args .image .now) .applies ≡ false
 left1 c = as-tested (c .before .fits2 .ensures) (c .if1 .left)
+
+-- a write that a row refuses
+refuses :
+    (geo : Geometry) (image : Image) (n : ℕ) (buffer : List ℕ) {a : Answer} {r : Outcome} →
+    FirstIs (writeRows geo image n buffer) a →
+    r ≡ outcome a [] →
+    (r ≡ writeOutcome geo image n buffer) × (image ≡ written geo image n buffer)
+unfolding writeAnswer writeSteps
+refuses geo image n buffer = refused-by geo image (writeRows geo image n buffer) (writing geo image n buffer) refl
 
 -- past the fourth: what was handed in is as the write wants it
 record Handed (geo : Geometry) (image : Image) (n : ℕ) (buffer : List ℕ) : Type 0 where
@@ -67,9 +79,8 @@ same-length : tie.Need-same-length
 same-length c = search needs
 
 returns : tie.Need-returns
-unfolding writeAnswer writeSteps
 returns c =
-    left-alone _ _ _ _ BadGeometry (c .refused .result) (rw (as-tested (c .before .before .fits2 .ensures) (c .before .if1 .taken))) (λ e. let z : _≡_ {A = ℕ} 0 1 = cc in omega arith) (c .refused .ensures)
+    refuses _ _ _ _ (here (as-tested (c .before .before .fits2 .ensures) (c .before .if1 .taken))) (c .refused .ensures)
 
 refused-requires-2 : tie.Need-refused-requires-2
 refused-requires-2 c κs = search needs
@@ -78,9 +89,11 @@ same-length-2 : tie.Need-same-length-2
 same-length-2 c = search needs
 
 returns-2 : tie.Need-returns-2
-unfolding writeAnswer writeSteps
 returns-2 c =
-    left-alone _ _ _ _ BadBuffer (c .refused2 .result) (rw (left1 (c .before .before), ne-eqb _ _ (λ e. c .before .if2 .taken (sym e)))) (λ e. let z : _≡_ {A = ℕ} 0 1 = cc in omega arith) (c .refused2 .ensures)
+    refuses _ _ _ _
+    (later (left1 (c .before .before))
+    (here (ap not (ne-eqb _ _ (λ e. c .before .if2 .taken (sym e))))))
+    (c .refused2 .ensures)
 
 refused-requires-3 : tie.Need-refused-requires-3
 refused-requires-3 c κs = search needs
@@ -89,12 +102,13 @@ same-length-3 : tie.Need-same-length-3
 same-length-3 c = search needs
 
 returns-3 : tie.Need-returns-3
-unfolding writeAnswer writeSteps
 returns-3 c =
     let second = c .before .before .before in
-    left-alone _ _ _ _ BadNumber (c .refused3 .result)
-    (rw (left1 (second .before), eq-eqb _ _ (sym (second .if2 .left)), le-leb _ _ (c .before .if3 .taken)))
-    (λ e. let z : _≡_ {A = ℕ} 0 1 = cc in omega arith) (c .refused3 .ensures)
+    refuses _ _ _ _
+    (later (left1 (second .before))
+    (later (ap not (eq-eqb _ _ (sym (second .if2 .left))))
+    (here (le-leb _ _ (c .before .if3 .taken)))))
+    (c .refused3 .ensures)
 
 well-formed-requires : tie.Need-well-formed-requires
 well-formed-requires c κs = shaped-left _ _ (left1 (c .before .before .before .before))
@@ -106,18 +120,15 @@ same-length-4 : tie.Need-same-length-4
 same-length-4 c = search needs
 
 returns-4 : tie.Need-returns-4
-unfolding writeAnswer writeSteps
 returns-4 c =
     let third = c .before .before .before .before in
     let second = third .before .before in
-    left-alone _ _ _ _ Malformed (c .refused4 .result)
-    (rw (
-      left1 (second .before),
-      eq-eqb _ _ (sym (second .if2 .left)),
-      lt-leb _ _ (third .if3 .left),
-      as-tested (c .before .before .well-formed .ensures) (c .before .if4 .taken),
-    ))
-    (λ e. let z : _≡_ {A = ℕ} 0 1 = cc in omega arith) (c .refused4 .ensures)
+    refuses _ _ _ _
+    (later (left1 (second .before))
+    (later (ap not (eq-eqb _ _ (sym (second .if2 .left))))
+    (later (lt-leb _ _ (third .if3 .left))
+    (here (as-tested (c .before .before .well-formed .ensures) (c .before .if4 .taken))))))
+    (c .refused4 .ensures)
 
 plan-requires : tie.Need-plan-requires
 plan-requires c κs =
@@ -142,7 +153,7 @@ fill-requires c κs =
     let h = handed (c .before .before .before .before .before) in
     let words : Words32 (start .args .image .now) = record { small = λ q. c .before .before .before .before .before .before .before .before .before .before .before .before .before .before .before .slice-known .given q .fits } in
     let ready = formed-ready (start .args .geo) (start .args .image .now) (h .shaped) words (h .formed) in
-    (h .shaped, (sound-maps _ _ (ready .0 .sound), (ready .1, (h .number, h .long))))
+    (h .shaped, (sound-maps _ _ (ready .0 .sound), (ready .1, (omega (arith, h .number), h .long))))
 
 enum-known-v : tie.Need-enum-known-v
 enum-known-v c = search needs
@@ -150,7 +161,8 @@ enum-known-v c = search needs
 reclaim-and-fill-requires : tie.Need-reclaim-and-fill-requires
 reclaim-and-fill-requires c κs =
     let h = handed (c .before .before .before .before .before .before) in
-    (h .shaped, (h .formed, (sym (c .before .before .before .before .plan .ensures) ∙ c .before .before .v .given .1, (h .number, h .long))))
+    let planned-v = sym (c .before .before .before .before .plan .ensures) ∙ c .before .before .v .given .1 in
+    (h .shaped, (h .formed, (planned-v ∙ ap Reclaim (omega arith), (omega (arith, h .number), h .long))))
 
 same-length-5 : tie.Need-same-length-5
 same-length-5 c = search needs
@@ -161,7 +173,7 @@ returns-5 c =
     let start = c .before .before .before .before .before .before .before .before .before .before .before .before .before .before .before .before in
     let h = handed (c .before .before .before .before .before) in
     let worn = worn-says (start .args .geo) (start .args .image .now) (sym (c .before .before .before .plan .ensures) ∙ c .before .enum-told .given .1) in
-    left-alone _ _ _ _ WornOut (c .refused5 .result) (h .answer ∙ rw worn) (λ e. let z : _≡_ {A = ℕ} 0 1 = cc in omega arith) (c .refused5 .ensures)
+    left-alone _ _ _ _ (h .answer ∙ rw worn) (omega arith) (c .refused5 .ensures)
 
 same-length-6 : tie.Need-same-length-6
 same-length-6 c = search needs
@@ -176,9 +188,9 @@ returns-6 c =
     let fill = c .before .before .fill in
     let plain = fill-says geo image (sym (c .before .before .before .before .before .before .plan .ensures) ∙ c .before .before .before .before .enum-told2 .given .1) in
     let steps = writing-fills geo image plain (start .args .n) (start .args .buffer .now) in
-    carried-out _ _ _ _ (fill .result) 0 (fill .last .0)
+    carried-out _ _ _ _ (fill .result) _ (fill .last .0)
     (h .answer ∙ rw plain)
-    (fill .ensures .0 ∙ ap wordsIn (sym steps))
+    (rw steps (fill .ensures .0))
     (sym (ap erasuresIn steps ∙ filling-erases-nothing geo image (start .args .n) (start .args .buffer .now)))
     (fill .ensures .1 ∙ ap (run geo image) (sym steps))
 
@@ -204,9 +216,9 @@ returns-7 c =
     let once =
     reclaiming-once geo image ready (says .0) (victim geo image) (victim-reclaimable geo image ready (says .0) (says .2))
     (start .args .n) (start .args .buffer .now) (record { number = h .number; long = h .long; words = handed-words }) in
-    carried-out _ _ _ _ (done .result) 1 (done .last .0)
+    carried-out _ _ _ _ (done .result) _ (done .last .0)
     (h .answer ∙ rw (says .0, ne-eqb _ _ (says .2)))
-    (done .ensures .0 ∙ ap wordsIn (sym steps))
+    (rw steps (done .ensures .0))
     (sym (ap erasuresIn (writing-reclaims geo image (says .0) (start .args .n) (start .args .buffer .now)) ∙ once))
     (done .ensures .1 ∙ ap (run geo image) (sym steps))
 
