@@ -1,0 +1,106 @@
+-- A number of blocks or sectors that 16 bits do not hold breaks its limit, and so does the one that stands for it: no call tells them
+-- apart. Assumes nothing.
+use mathlib.Core.Path.{_≡_, refl, sym, ap, _∙_}
+use mathlib.Core.Bool.{Bool, true, false}
+use mathlib.Core.List.{List, []}
+use Prim.Native.Nat.{ℕ, _<_}
+use native.Mathlib.Decide.{decLt}
+use native.Mathlib.Omega.{arith}
+use Rattle.geometry.specs.declared.Geometry.{Geometry}
+use Rattle.geometry.specs.Geometry.{withinLimits, Limits}
+use Rattle.geometry.proofs.Laws.{limits-hold}
+use Rattle.image.specs.Words.{Image}
+use Rattle.flash.specs.Steps.{wordsIn, erasuresIn}
+use Rattle.flash.proofs.Stores.{run-none}
+use Rattle.shellwaltz.specs.declared.Answer.the-variants.{BadGeometry}
+use Rattle.shellwaltz.specs.declared.Outcome.{Outcome}
+use Rattle.shellwaltz.specs.Refusals.{numberOf, formatAnswer, checkAnswer, reportAnswer, readAnswer, writeAnswer, releaseAnswer}
+use Rattle.shellwaltz.specs.Calls.{formatOutcome, formatted, noTotals, reported, readBuffer, outcome, writeSteps, writeOutcome, written, releaseSteps, releaseOutcome, released}
+use Rattle.shellwaltz_c.specs.Plain.{of, narrowed}
+
+-- where one limit is broken, the test of all fails
+outside : (geo : Geometry) → (Limits geo → ⊥) → withinLimits geo ≡ false
+outside geo broken = go (withinLimits geo) refl
+  where
+    go : (w : Bool) → withinLimits geo ≡ w → w ≡ false
+    go false e = refl
+    go true e = absurd (broken (limits-hold geo e))
+
+-- what is the same for all geometries outside the limits is the same for a geometry and the narrowed one
+narrowing {ℓ} :
+    {A : Type ℓ} (gives : Geometry → A) (refused : A) →
+    ((geo : Geometry) → withinLimits geo ≡ false → gives geo ≡ refused) →
+    {geo : Geometry} (b s l : ℕ) →
+    geo ≡ of (narrowed b) (narrowed s) l →
+    gives geo ≡ gives (of b s l)
+narrowing gives refused out b s l e = ap gives e ∙ go (decLt b 65536) (decLt s 65536)
+  where
+    go : Dec (b < 65536) → Dec (s < 65536) → gives (of (narrowed b) (narrowed s) l) ≡ gives (of b s l)
+    go (yes p) (yes q) =
+        let same-b : narrowed b ≡ b = omega arith in
+        let same-s : narrowed s ≡ s = omega arith in
+        rw (same-b, same-s)
+    go (no p) y =
+        out (of (narrowed b) (narrowed s) l) (outside _ (λ lim. omega (arith, lim .blocks-high)))
+        ∙ sym (out (of b s l) (outside _ (λ lim. omega (arith, lim .blocks-high))))
+    go (yes p) (no q) =
+        out (of (narrowed b) (narrowed s) l) (outside _ (λ lim. omega (arith, lim .sectors-high)))
+        ∙ sym (out (of b s l) (outside _ (λ lim. omega (arith, lim .sectors-high))))
+
+-- ---- so what each call answers and leaves is what it answers and leaves for the numbers that were handed in
+module _ {geo : Geometry} (b s l : ℕ) (e : geo ≡ of (narrowed b) (narrowed s) l) (image : Image) where
+  pub format-same : (formatOutcome geo image ≡ formatOutcome (of b s l) image) × (formatted geo image ≡ formatted (of b s l) image)
+  unfolding formatAnswer formatted wordsIn erasuresIn
+  format-same = (
+    narrowing (λ x. formatOutcome x image) (outcome BadGeometry []) (λ x out. rw out) b s l e,
+    narrowing (λ x. formatted x image) image (λ x out. rw out) b s l e,
+  )
+
+  pub check-same : checkAnswer geo image ≡ checkAnswer (of b s l) image
+  unfolding checkAnswer
+  check-same = narrowing (λ x. checkAnswer x image) BadGeometry (λ x out. rw out) b s l e
+
+  pub report-same : reported geo image ≡ reported (of b s l) image
+  unfolding reportAnswer reported
+  report-same = narrowing (λ x. reported x image) (noTotals geo image BadGeometry) (λ x out. rw out) b s l e
+
+  pub read-same :
+      (n : ℕ) (buffer : List ℕ) →
+      (readAnswer geo image n buffer ≡ readAnswer (of b s l) image n buffer)
+      × (readBuffer geo image n buffer ≡ readBuffer (of b s l) image n buffer)
+  unfolding readAnswer readBuffer
+  read-same n buffer = (
+    narrowing (λ x. readAnswer x image n buffer) BadGeometry (λ x out. rw out) b s l e,
+    narrowing (λ x. readBuffer x image n buffer) buffer (λ x out. rw out) b s l e,
+  )
+
+  pub write-same :
+      (n : ℕ) (buffer : List ℕ) →
+      (writeOutcome geo image n buffer ≡ writeOutcome (of b s l) image n buffer)
+      × (written geo image n buffer ≡ written (of b s l) image n buffer)
+  unfolding writeAnswer writeSteps
+  write-same n buffer = (
+    narrowing (λ x. writeOutcome x image n buffer) (outcome BadGeometry []) (λ x out. rw out) b s l e,
+    narrowing (λ x. written x image n buffer) image (λ x out. rw out (run-none x image)) b s l e,
+  )
+
+  pub release-same :
+      (n : ℕ) →
+      (releaseOutcome geo image n ≡ releaseOutcome (of b s l) image n) × (released geo image n ≡ released (of b s l) image n)
+  unfolding releaseAnswer releaseSteps
+  release-same n = (
+    narrowing (λ x. releaseOutcome x image n) (outcome BadGeometry []) (λ x out. rw out) b s l e,
+    narrowing (λ x. released x image n) image (λ x out. rw out (run-none x image)) b s l e,
+  )
+
+-- what a call gave, and what it gives for the numbers handed in: the parts of the outcome, the answer by its number, and the image
+pub parts :
+    {number : ℕ} {gave passed says : Outcome} {left passes leaves : Image} →
+    number ≡ numberOf (gave .answer) →
+    (gave ≡ passed) × (left ≡ passes) →
+    (passed ≡ says) × (passes ≡ leaves) →
+    (number ≡ numberOf (says .answer)) × ((gave .words ≡ says .words) × ((gave .erasures ≡ says .erasures) × (left ≡ leaves)))
+parts is-number (gives, leaves-it) (same, same-image) = (
+  is-number ∙ ap (λ o. numberOf (o .answer)) (gives ∙ same),
+  (ap (λ o. o .words) (gives ∙ same), (ap (λ o. o .erasures) (gives ∙ same), leaves-it ∙ same-image)),
+)

@@ -1,0 +1,28 @@
+-- `shellwaltz_c::shellwaltz_read` meets its contract: it passes on what the call answers and leaves.
+use mathlib.Core.Path.{ap, _∙_}
+use borrow.Author.Needs.{needs}
+use Rattle.shellwaltz.specs.Refusals.{numberOf}
+use Rattle.shellwaltz_c.proofs.SameCalls.{read-same}
+use Rattle.shellwaltz_c.proofs.shellwaltz_read.Statement.{statement}
+use Rattle.shellwaltz_c.proofs.shellwaltz_read.Tie as tie
+
+geometry-requires : tie.Need-geometry-requires
+geometry-requires c κs = search needs
+
+read-requires : tie.Need-read-requires
+read-requires c κs = search needs
+
+number-requires : tie.Need-number-requires
+number-requires c κs = search needs
+
+same-length : tie.Need-same-length
+same-length c = search needs
+
+returns : tie.Need-returns
+returns c =
+    let called = c .before .before .before in
+    let same = read-same _ _ _ (called .before .before .geometry .ensures) _ _ _ in
+    (c .number .ensures ∙ ap numberOf (called .read .ensures .0 ∙ same .0), called .read .ensures .1 ∙ same .1)
+
+pub shellwaltz-read-spec : {M : Type 1} → statement M
+shellwaltz-read-spec = tie.close (tie.spec geometry-requires read-requires number-requires same-length returns)

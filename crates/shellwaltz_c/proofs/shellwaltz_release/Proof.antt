@@ -1,0 +1,25 @@
+-- `shellwaltz_c::shellwaltz_release` meets its contract: it passes on what the call answers and leaves.
+use borrow.Author.Needs.{needs}
+use Rattle.shellwaltz_c.proofs.SameCalls.{release-same, parts}
+use Rattle.shellwaltz_c.proofs.shellwaltz_release.Statement.{statement}
+use Rattle.shellwaltz_c.proofs.shellwaltz_release.Tie as tie
+
+geometry-requires : tie.Need-geometry-requires
+geometry-requires c κs = search needs
+
+release-requires : tie.Need-release-requires
+release-requires c κs = search needs
+
+number-requires : tie.Need-number-requires
+number-requires c κs = search needs
+
+same-length : tie.Need-same-length
+same-length c = search needs
+
+returns : tie.Need-returns
+returns c =
+    let called = c .before .before .before in
+    parts (c .number .ensures) (called .release .ensures) (release-same _ _ _ (called .before .geometry .ensures) _ _)
+
+pub shellwaltz-release-spec : {M : Type 1} → statement M
+shellwaltz-release-spec = tie.close (tie.spec geometry-requires release-requires number-requires same-length returns)

@@ -1,0 +1,25 @@
+-- `shellwaltz_c::shellwaltz_write` meets its contract: it passes on what the call answers and leaves.
+use borrow.Author.Needs.{needs}
+use Rattle.shellwaltz_c.proofs.SameCalls.{write-same, parts}
+use Rattle.shellwaltz_c.proofs.shellwaltz_write.Statement.{statement}
+use Rattle.shellwaltz_c.proofs.shellwaltz_write.Tie as tie
+
+geometry-requires : tie.Need-geometry-requires
+geometry-requires c κs = search needs
+
+write-requires : tie.Need-write-requires
+write-requires c κs = search needs
+
+number-requires : tie.Need-number-requires
+number-requires c κs = search needs
+
+same-length : tie.Need-same-length
+same-length c = search needs
+
+returns : tie.Need-returns
+returns c =
+    let called = c .before .before .before in
+    parts (c .number .ensures) (called .write .ensures) (write-same _ _ _ (called .before .geometry .ensures) _ _ _)
+
+pub shellwaltz-write-spec : {M : Type 1} → statement M
+shellwaltz-write-spec = tie.close (tie.spec geometry-requires write-requires number-requires same-length returns)

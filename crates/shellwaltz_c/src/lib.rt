@@ -1,0 +1,146 @@
+// The calls for C: plain numbers, an image or a buffer as a pointer and a length in words, counts through pointers, and the
+// paper's number as the answer. include/shellwaltz.h is their header. Each contract is that of the call it passes on to, for
+// any three 32-bit numbers as geometry.
+ghost use mathlib.Core.Path.{_≡_};
+ghost use Rattle.shellwaltz.specs.Refusals.{numberOf, checkAnswer, readAnswer};
+ghost use Rattle.shellwaltz.specs.Calls.{formatted, formatOutcome, reported, readBuffer, writeOutcome, written, releaseOutcome, released};
+ghost use Rattle.shellwaltz_c.specs.Plain.{of, narrowed};
+use geometry::Geometry;
+
+// A number of blocks or sectors in 16 bits: one that does not fit becomes the greatest that does, which breaks its limit as well.
+fn narrow(x: u32) -> u16
+    ensures { λ r. ⌜ r ≡ narrowed x ⌝ }
+{
+    if x < 65536 { x as u16 } else { 65535 }
+}
+
+// The geometry that the Rattle calls take.
+fn geometry(blocks: u32, sectors: u32, logical: u32) -> Geometry
+    ensures { λ r. ⌜ r ≡ of (narrowed blocks) (narrowed sectors) logical ⌝ }
+{
+    Geometry {
+        blocks: narrow(blocks),
+        sectors: narrow(sectors),
+        logical,
+    }
+}
+
+// Makes a fresh image. Refuses 1.
+#[no_mangle]
+pub extern "C" fn shellwaltz_format(
+    blocks: u32,
+    sectors: u32,
+    logical: u32,
+    image: &mut [u32],
+    words: &mut u32,
+    erasures: &mut u32,
+) -> u32
+    ensures { λ r. ⌜ r ≡ numberOf (formatOutcome (of blocks sectors logical) (now (image .entry)) .answer) ⌝ }
+    ensures { λ _. ⌜ now (words .exit) ≡ formatOutcome (of blocks sectors logical) (now (image .entry)) .words ⌝ }
+    ensures { λ _. ⌜ now (erasures .exit) ≡ formatOutcome (of blocks sectors logical) (now (image .entry)) .erasures ⌝ }
+    ensures { λ _. ⌜ now (image .exit) ≡ formatted (of blocks sectors logical) (now (image .entry)) ⌝ }
+{
+    let made = shellwaltz::format(image, geometry(blocks, sectors, logical));
+    *words = made.words;
+    *erasures = made.erasures;
+    let answer = made.answer;
+    shellwaltz::number(answer)
+}
+
+// Whether the image is well formed. Refuses 1 and 4.
+#[no_mangle]
+pub extern "C" fn shellwaltz_check(blocks: u32, sectors: u32, logical: u32, image: &[u32]) -> u32
+    ensures { λ r. ⌜ r ≡ numberOf (checkAnswer (of blocks sectors logical) (now (image .entry))) ⌝ }
+{
+    shellwaltz::number(shellwaltz::check(image, geometry(blocks, sectors, logical)))
+}
+
+// Mapped, free and dead slots and the sum of the erase counts. Refuses 1 and 4, with four zeros.
+#[no_mangle]
+pub extern "C" fn shellwaltz_report(
+    blocks: u32,
+    sectors: u32,
+    logical: u32,
+    image: &[u32],
+    mapped: &mut u32,
+    free: &mut u32,
+    dead: &mut u32,
+    erase_sum: &mut u32,
+) -> u32
+    ensures { λ r. ⌜ r ≡ numberOf (reported (of blocks sectors logical) (now (image .entry)) .answer) ⌝ }
+    ensures { λ _. ⌜ now (mapped .exit) ≡ reported (of blocks sectors logical) (now (image .entry)) .mapped ⌝ }
+    ensures { λ _. ⌜ now (free .exit) ≡ reported (of blocks sectors logical) (now (image .entry)) .free ⌝ }
+    ensures { λ _. ⌜ now (dead .exit) ≡ reported (of blocks sectors logical) (now (image .entry)) .dead ⌝ }
+    ensures { λ _. ⌜ now («erase_sum» .exit) ≡ reported (of blocks sectors logical) (now (image .entry)) .«erase_sum» ⌝ }
+{
+    let totals = shellwaltz::report(image, geometry(blocks, sectors, logical));
+    *mapped = totals.mapped;
+    *free = totals.free;
+    *dead = totals.dead;
+    *erase_sum = totals.erase_sum;
+    let answer = totals.answer;
+    shellwaltz::number(answer)
+}
+
+// Copies the 128 words of a sector to the buffer. Refuses 1, 2, 3, 4 and 5.
+#[no_mangle]
+pub extern "C" fn shellwaltz_read(
+    blocks: u32,
+    sectors: u32,
+    logical: u32,
+    image: &[u32],
+    number: u32,
+    buffer: &mut [u32],
+) -> u32
+    ensures { λ r. ⌜ r ≡ numberOf (readAnswer (of blocks sectors logical) (now (image .entry)) number (now (buffer .entry))) ⌝ }
+    ensures { λ _. ⌜ now (buffer .exit) ≡ readBuffer (of blocks sectors logical) (now (image .entry)) number (now (buffer .entry)) ⌝ }
+{
+    shellwaltz::number(shellwaltz::read(image, geometry(blocks, sectors, logical), number, buffer))
+}
+
+// Writes the 128 words of the buffer as a sector. Refuses 1, 2, 3, 4 and 6.
+#[no_mangle]
+pub extern "C" fn shellwaltz_write(
+    blocks: u32,
+    sectors: u32,
+    logical: u32,
+    image: &mut [u32],
+    number: u32,
+    buffer: &[u32],
+    words: &mut u32,
+    erasures: &mut u32,
+) -> u32
+    ensures { λ r. ⌜ r ≡ numberOf (writeOutcome (of blocks sectors logical) (now (image .entry)) number (now (buffer .entry)) .answer) ⌝ }
+    ensures { λ _. ⌜ now (words .exit) ≡ writeOutcome (of blocks sectors logical) (now (image .entry)) number (now (buffer .entry)) .words ⌝ }
+    ensures { λ _. ⌜ now (erasures .exit) ≡ writeOutcome (of blocks sectors logical) (now (image .entry)) number (now (buffer .entry)) .erasures ⌝ }
+    ensures { λ _. ⌜ now (image .exit) ≡ written (of blocks sectors logical) (now (image .entry)) number (now (buffer .entry)) ⌝ }
+{
+    let wrote = shellwaltz::write(image, geometry(blocks, sectors, logical), number, buffer);
+    *words = wrote.words;
+    *erasures = wrote.erasures;
+    let answer = wrote.answer;
+    shellwaltz::number(answer)
+}
+
+// Releases a sector: its number is not mapped any more. Refuses 1, 3, 4 and 5.
+#[no_mangle]
+pub extern "C" fn shellwaltz_release(
+    blocks: u32,
+    sectors: u32,
+    logical: u32,
+    image: &mut [u32],
+    number: u32,
+    words: &mut u32,
+    erasures: &mut u32,
+) -> u32
+    ensures { λ r. ⌜ r ≡ numberOf (releaseOutcome (of blocks sectors logical) (now (image .entry)) number .answer) ⌝ }
+    ensures { λ _. ⌜ now (words .exit) ≡ releaseOutcome (of blocks sectors logical) (now (image .entry)) number .words ⌝ }
+    ensures { λ _. ⌜ now (erasures .exit) ≡ releaseOutcome (of blocks sectors logical) (now (image .entry)) number .erasures ⌝ }
+    ensures { λ _. ⌜ now (image .exit) ≡ released (of blocks sectors logical) (now (image .entry)) number ⌝ }
+{
+    let freed = shellwaltz::release(image, geometry(blocks, sectors, logical), number);
+    *words = freed.words;
+    *erasures = freed.erasures;
+    let answer = freed.answer;
+    shellwaltz::number(answer)
+}
