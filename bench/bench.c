@@ -1,0 +1,369 @@
+/* Times of the linked library, beside the second implementation and beside the floor, and the stack that each call uses.
+ *
+ * The floor is what no program that keeps document 01 can go below: one pass over just the words that the rules must look at, each
+ * loaded once. A read adds the sector's words to it, a write those that it programs (and, with a reclaim, those that it erases).
+ *
+ * Each number is the least time of many rounds, so that what else the machine does counts little. */
+#define _POSIX_C_SOURCE 200809L
+#include <stdbool.h>
+#include <stdio.h>
+#include <stdlib.h>
+#include <string.h>
+#include <time.h>
+#include <ucontext.h>
+
+#include "../include/shellwaltz.h"
+#include "../second/second.h"
+
+enum { ROUNDS = 41, SECTOR = 128 };
+
+struct geometry {
+    uint32_t blocks, sectors, logical;
+};
+
+/* One of the two implementations. */
+struct layer {
+    uint32_t (*check)(uint32_t, uint32_t, uint32_t, const uint32_t *, size_t);
+    uint32_t (*read)(uint32_t, uint32_t, uint32_t, const uint32_t *, size_t, uint32_t, uint32_t *, size_t);
+    uint32_t (*write)(uint32_t, uint32_t, uint32_t, uint32_t *, size_t, uint32_t, const uint32_t *, size_t, uint32_t *, uint32_t *);
+};
+
+static const struct layer ours = {shellwaltz_check, shellwaltz_read, shellwaltz_write};
+static const struct layer theirs = {second_check, second_read, second_write};
+
+static volatile uint32_t sink; /* what a pass found, so that it is not left out */
+
+static void fail(const char *what)
+{
+    fprintf(stderr, "bench: %s\n", what);
+    exit(1);
+}
+
+static size_t words_of(struct geometry g)
+{
+    return SHELLWALTZ_IMAGE_WORDS(g.blocks, g.sectors);
+}
+
+/* Eight sums side by side, so that no load waits for the one before it. */
+static uint32_t all_of(const uint32_t *contents)
+{
+    uint32_t part[32];
+    memcpy(part, contents, sizeof part);
+    for (uint32_t j = 32; j < SECTOR; j += 32)
+        for (uint32_t k = 0; k < 32; k++)
+            part[k] &= contents[j + k];
+    uint32_t all = 0xFFFFFFFFu;
+    for (uint32_t k = 0; k < 32; k++)
+        all &= part[k];
+    return all;
+}
+
+/* Loads each word of a block that the rules must look at, once. */
+static uint32_t floor_block(struct geometry g, const uint32_t *block)
+{
+    uint32_t slots = g.sectors - 1, map_words = (slots + 31) / 32, all = 0xFFFFFFFFu, seen = 0;
+    const uint32_t *entries = block + 3 + map_words;
+    for (uint32_t w = 0; w < 3 + map_words; w++)
+        seen ^= block[w];
+    for (uint32_t i = 0; i < slots; i++) {
+        seen ^= entries[i];
+        if (entries[i] == 0xFFFFFFFFu)
+            all &= all_of(block + (size_t)(i + 1) * SECTOR);
+    }
+    return seen ^ all;
+}
+
+static void floor_pass(struct geometry g, const uint32_t *image)
+{
+    uint32_t seen = 0;
+    for (uint32_t b = 0; b < g.blocks; b++)
+        seen ^= floor_block(g, image + (size_t)b * g.sectors * SECTOR);
+    sink = seen;
+}
+
+static uint64_t now_ns(void)
+{
+    struct timespec t;
+    clock_gettime(CLOCK_MONOTONIC, &t);
+    return (uint64_t)t.tv_sec * 1000000000u + (uint64_t)t.tv_nsec;
+}
+
+/* What is timed: a call on the image of its state. */
+enum what { CHECK, READ, WRITE, PASS, PASS_READ, PASS_WRITE, PASS_RECLAIM };
+
+struct state {
+    struct geometry g;
+    const struct layer *layer;
+    const uint32_t *master; /* the image before the call */
+    uint32_t *image;        /* the one that the call works on */
+    uint32_t number;
+    uint32_t buffer[SECTOR];
+    uint32_t words, erasures;
+};
+
+static void put_back(struct state *s)
+{
+    memcpy(s->image, s->master, words_of(s->g) * sizeof *s->image);
+}
+
+static uint32_t once(struct state *s, enum what what)
+{
+    struct geometry g = s->g;
+    size_t n = words_of(g);
+    uint32_t *target = s->image + (size_t)SECTOR * (g.sectors - 1);
+    switch (what) {
+    case CHECK:
+        return s->layer->check(g.blocks, g.sectors, g.logical, s->image, n);
+    case READ:
+        return s->layer->read(g.blocks, g.sectors, g.logical, s->image, n, s->number, s->buffer, SECTOR);
+    case WRITE:
+        return s->layer->write(g.blocks, g.sectors, g.logical, s->image, n, s->number, s->buffer, SECTOR, &s->words, &s->erasures);
+    case PASS:
+        floor_pass(g, s->image);
+        return 0;
+    case PASS_READ:
+        floor_pass(g, s->image);
+        memcpy(s->buffer, target, sizeof s->buffer);
+        return 0;
+    case PASS_WRITE:
+        floor_pass(g, s->image);
+        for (uint32_t j = 0; j < SECTOR; j++)
+            target[j] &= s->buffer[j];
+        return 0;
+    case PASS_RECLAIM:
+        floor_pass(g, s->image);
+        for (uint32_t w = 0; w + SECTOR < s->words; w++)
+            s->image[w] &= s->image[n - 1 - w];
+        for (uint32_t j = 0; j < SECTOR; j++)
+            target[j] &= s->buffer[j];
+        memset(s->image + n - (size_t)SECTOR * g.sectors, 0xFF, (size_t)SECTOR * g.sectors * sizeof *s->image);
+        return 0;
+    }
+    return 0;
+}
+
+/* The least time of one call, in nanoseconds. A call that changes the image gets a fresh one each time, outside the clock. */
+static double least_time(struct state *s, enum what what)
+{
+    bool changes = what == WRITE || what == PASS_WRITE || what == PASS_RECLAIM;
+    unsigned calls = changes ? 1 : 1 + 4000000u / (unsigned)words_of(s->g);
+    uint64_t least = UINT64_MAX;
+    put_back(s);
+    for (int round = 0; round < (changes ? 10 * ROUNDS : ROUNDS); round++) {
+        if (changes)
+            put_back(s);
+        uint64_t start = now_ns();
+        for (unsigned c = 0; c < calls; c++)
+            if (once(s, what) != 0)
+                fail("a timed call was refused");
+        uint64_t took = now_ns() - start;
+        if (took < least)
+            least = took;
+    }
+    return (double)least / calls;
+}
+
+/* An image that is half full: half of the numbers are written by turns until half of the slots are used. */
+static void fill_half(struct geometry g, uint32_t *image)
+{
+    uint32_t words, erasures, buffer[SECTOR];
+    size_t n = words_of(g);
+    uint32_t slots = g.blocks * (g.sectors - 1), numbers = (g.logical + 1) / 2;
+    if (shellwaltz_format(g.blocks, g.sectors, g.logical, image, n, &words, &erasures) != 0)
+        fail("format was refused");
+    for (uint32_t i = 0; i < slots / 2; i++) {
+        for (uint32_t j = 0; j < SECTOR; j++)
+            buffer[j] = i * 2654435761u + j;
+        if (shellwaltz_write(g.blocks, g.sectors, g.logical, image, n, i % numbers, buffer, SECTOR, &words, &erasures) != 0)
+            fail("a write was refused");
+    }
+}
+
+/* Writes on, half of the numbers in no order, until the next write reclaims: its victim has live slots to copy. */
+static void fill_to_reclaim(struct geometry g, uint32_t *image)
+{
+    uint32_t words, erasures = 0, chance = 1, buffer[SECTOR] = {0};
+    size_t n = words_of(g);
+    uint32_t *before = malloc(n * sizeof *before);
+    if (!before)
+        fail("no memory");
+    while (erasures == 0) {
+        memcpy(before, image, n * sizeof *before);
+        chance = chance * 1664525u + 1013904223u;
+        if (shellwaltz_write(g.blocks, g.sectors, g.logical, image, n, (chance >> 8) % ((g.logical + 1) / 2), buffer, SECTOR, &words, &erasures) != 0)
+            fail("a write was refused");
+    }
+    memcpy(image, before, n * sizeof *before);
+    free(before);
+}
+
+static void line(const char *name, struct state *s, enum what what, enum what pass)
+{
+    s->layer = &ours;
+    double us = least_time(s, what);
+    uint32_t words = s->words;
+    s->layer = &theirs;
+    double them = least_time(s, what);
+    s->words = words;
+    double low = least_time(s, pass);
+    printf("| (%u,%u,%u) | %s | %.2f | %.2f | %.2f | %.2f | %.2f |\n", (unsigned)s->g.blocks, (unsigned)s->g.sectors,
+           (unsigned)s->g.logical, name, us / 1000, them / 1000, low / 1000, us / them, us / low);
+}
+
+static void times_at(struct geometry g)
+{
+    size_t n = words_of(g);
+    uint32_t *master = malloc(n * sizeof *master), *image = malloc(n * sizeof *image);
+    if (!master || !image)
+        fail("no memory");
+    fill_half(g, master);
+    struct state s = {.g = g, .layer = &ours, .master = master, .image = image, .number = 3};
+    for (uint32_t j = 0; j < SECTOR; j++)
+        s.buffer[j] = j;
+    line("check", &s, CHECK, PASS);
+    line("read", &s, READ, PASS_READ);
+    line("write", &s, WRITE, PASS_WRITE);
+    if (s.erasures != 0)
+        fail("a write at half full erased a block");
+    fill_to_reclaim(g, master);
+    line("write with reclaim", &s, WRITE, PASS_RECLAIM);
+    if (s.erasures != 1)
+        fail("the last write did not reclaim");
+    free(master);
+    free(image);
+}
+
+/* The words of the floor's pass: the growth of check's time is told by them and by the image's length. */
+static void growth_at(struct geometry g)
+{
+    size_t n = words_of(g);
+    uint32_t *image = malloc(n * sizeof *image);
+    if (!image)
+        fail("no memory");
+    fill_half(g, image);
+    uint32_t mapped, free_slots, dead, sum, slots = g.sectors - 1;
+    if (shellwaltz_report(g.blocks, g.sectors, g.logical, image, n, &mapped, &free_slots, &dead, &sum) != 0)
+        fail("report was refused");
+    size_t looked_at = (size_t)g.blocks * (3 + (slots + 31) / 32 + slots) + (size_t)free_slots * SECTOR;
+    struct state s = {.g = g, .layer = &ours, .master = image, .image = malloc(n * sizeof *image)};
+    if (!s.image)
+        fail("no memory");
+    double us = least_time(&s, CHECK);
+    printf("| (%u,%u,%u) | %zu | %zu | %.3f | %.3f |\n", (unsigned)g.blocks, (unsigned)g.sectors, (unsigned)g.logical, n, looked_at,
+           us / (double)n, us / (double)looked_at);
+    free(s.image);
+    free(image);
+}
+
+/* ---- Stack: a call runs on a stack of its own that was painted before, and the deepest word that lost its paint tells. */
+
+enum { STACK_WORDS = 16384 };
+static uint32_t stack[STACK_WORDS];
+static const uint32_t PAINT = 0xA5C3A5C3u;
+static ucontext_t here, there;
+static struct state *painted;
+static void (*painted_call)(struct state *);
+
+static void nothing(struct state *s)
+{
+    (void)s;
+}
+
+static void call_check(struct state *s)
+{
+    sink = shellwaltz_check(s->g.blocks, s->g.sectors, s->g.logical, s->image, words_of(s->g));
+}
+
+static void call_format(struct state *s)
+{
+    sink = shellwaltz_format(s->g.blocks, s->g.sectors, s->g.logical, s->image, words_of(s->g), &s->words, &s->erasures);
+}
+
+static void call_report(struct state *s)
+{
+    uint32_t sum;
+    sink = shellwaltz_report(s->g.blocks, s->g.sectors, s->g.logical, s->image, words_of(s->g), &s->words, &s->erasures, &s->buffer[0], &sum);
+}
+
+static void call_read(struct state *s)
+{
+    sink = once(s, READ);
+}
+
+static void call_write(struct state *s)
+{
+    sink = once(s, WRITE);
+}
+
+static void call_release(struct state *s)
+{
+    sink = shellwaltz_release(s->g.blocks, s->g.sectors, s->g.logical, s->image, words_of(s->g), s->number, &s->words, &s->erasures);
+}
+
+static void on_the_painted_stack(void)
+{
+    painted_call(painted);
+}
+
+static size_t stack_bytes(struct state *s, void (*call)(struct state *))
+{
+    for (size_t i = 0; i < STACK_WORDS; i++)
+        stack[i] = PAINT;
+    put_back(s);
+    painted = s;
+    painted_call = call;
+    if (getcontext(&there) != 0)
+        fail("no context");
+    there.uc_stack.ss_sp = stack;
+    there.uc_stack.ss_size = sizeof stack;
+    there.uc_link = &here;
+    makecontext(&there, on_the_painted_stack, 0);
+    if (swapcontext(&here, &there) != 0)
+        fail("no context");
+    size_t untouched = 0;
+    while (untouched < STACK_WORDS && stack[untouched] == PAINT)
+        untouched++;
+    return (STACK_WORDS - untouched) * sizeof *stack;
+}
+
+/* The stack of each call at the largest geometry, less what the measuring itself takes. */
+static void stacks(void)
+{
+    static const struct {
+        const char *name;
+        void (*call)(struct state *);
+    } calls[] = {{"format", call_format}, {"check", call_check}, {"report", call_report},
+                 {"read", call_read}, {"write with reclaim", call_write}, {"release", call_release}};
+    struct geometry g = {64, 64, 3968};
+    uint32_t *master = malloc(words_of(g) * sizeof *master);
+    struct state s = {.g = g, .layer = &ours, .master = master, .image = malloc(words_of(g) * sizeof *master), .number = 3};
+    if (!master || !s.image)
+        fail("no memory");
+    fill_half(g, master);
+    fill_to_reclaim(g, master);
+    size_t own = stack_bytes(&s, nothing);
+    printf("\n| Call | Stack, bytes |\n|---|---|\n");
+    for (size_t i = 0; i < sizeof calls / sizeof *calls; i++) {
+        size_t bytes = stack_bytes(&s, calls[i].call) - own;
+        printf("| %s | %zu |\n", calls[i].name, bytes);
+        if (bytes >= 4096)
+            fail("a call uses 4 KiB of stack or more");
+    }
+    free(s.image);
+    free(master);
+}
+
+int main(void)
+{
+    static const struct geometry three[] = {{8, 16, 90}, {32, 32, 900}, {64, 64, 3968}};
+    static const struct geometry growing[] = {{2, 3, 1},     {3, 2, 1},     {4, 8, 16},    {8, 16, 90},
+                                              {16, 16, 200}, {32, 32, 900}, {64, 32, 1800}, {64, 64, 3968}};
+    printf("| Geometry | Call | Library, µs | Second, µs | Floor, µs | Library / second | Library / floor |\n|---|---|---|---|---|---|---|\n");
+    for (size_t i = 0; i < sizeof three / sizeof *three; i++)
+        times_at(three[i]);
+    printf("\n| Geometry | Words of the image | Words looked at | Check, ns per word | Check, ns per word looked at |\n|---|---|---|---|---|\n");
+    for (size_t i = 0; i < sizeof growing / sizeof *growing; i++)
+        growth_at(growing[i]);
+    stacks();
+    return 0;
+}
