@@ -17,15 +17,10 @@
 #include <string.h>
 #include <time.h>
 
-#include "../include/shellwaltz.h"
-#include "../second/second.h"
+#include "layers.h"
 
 enum { SECTOR = 128, GUARD = 64, MOST_BUFFER = 2 * SECTOR, SHORT_RUN = 48, LONG_RUN = 1500, ANSWERS = 7 };
 static const uint32_t ONES = 0xFFFFFFFFu, LIVE = 0xC0000000u;
-
-struct geometry {
-    uint32_t blocks, sectors, logical;
-};
 
 /* From the smallest to the largest, with one and two map words, L at both ends, and d at and beside 32. */
 static const struct geometry geometries[] = {
@@ -101,11 +96,6 @@ static uint32_t *make_words(size_t n)
 }
 
 /* ---- Images */
-
-static size_t words_of(struct geometry g)
-{
-    return SHELLWALTZ_IMAGE_WORDS(g.blocks, g.sectors);
-}
 
 static uint32_t slots_of(struct geometry g)
 {
@@ -221,39 +211,16 @@ struct asked {
     uint32_t number;
 };
 
-static void call_ours(struct asked a)
+static void call(const struct layer *layer, struct side *s, struct asked a)
 {
-    struct side *s = &ours;
-    uint32_t b = a.g.blocks, p = a.g.sectors, l = a.g.logical;
+    uint32_t b = a.g.blocks, p = a.g.sectors, l = a.g.logical, *n = s->count;
     switch (a.call) {
-    case FORMAT: s->answer = shellwaltz_format(b, p, l, s->image, a.image_words, &s->count[0], &s->count[1]); break;
-    case CHECK: s->answer = shellwaltz_check(b, p, l, s->image, a.image_words); break;
-    case REPORT:
-        s->answer = shellwaltz_report(b, p, l, s->image, a.image_words, &s->count[0], &s->count[1], &s->count[2], &s->count[3]);
-        break;
-    case READ: s->answer = shellwaltz_read(b, p, l, s->image, a.image_words, a.number, s->buffer, a.buffer_words); break;
-    case WRITE:
-        s->answer = shellwaltz_write(b, p, l, s->image, a.image_words, a.number, s->buffer, a.buffer_words, &s->count[0], &s->count[1]);
-        break;
-    default: s->answer = shellwaltz_release(b, p, l, s->image, a.image_words, a.number, &s->count[0], &s->count[1]); break;
-    }
-}
-
-static void call_theirs(struct asked a)
-{
-    struct side *s = &theirs;
-    uint32_t b = a.g.blocks, p = a.g.sectors, l = a.g.logical;
-    switch (a.call) {
-    case FORMAT: s->answer = second_format(b, p, l, s->image, a.image_words, &s->count[0], &s->count[1]); break;
-    case CHECK: s->answer = second_check(b, p, l, s->image, a.image_words); break;
-    case REPORT:
-        s->answer = second_report(b, p, l, s->image, a.image_words, &s->count[0], &s->count[1], &s->count[2], &s->count[3]);
-        break;
-    case READ: s->answer = second_read(b, p, l, s->image, a.image_words, a.number, s->buffer, a.buffer_words); break;
-    case WRITE:
-        s->answer = second_write(b, p, l, s->image, a.image_words, a.number, s->buffer, a.buffer_words, &s->count[0], &s->count[1]);
-        break;
-    default: s->answer = second_release(b, p, l, s->image, a.image_words, a.number, &s->count[0], &s->count[1]); break;
+    case FORMAT: s->answer = layer->format(b, p, l, s->image, a.image_words, n, n + 1); break;
+    case CHECK: s->answer = layer->check(b, p, l, s->image, a.image_words); break;
+    case REPORT: s->answer = layer->report(b, p, l, s->image, a.image_words, n, n + 1, n + 2, n + 3); break;
+    case READ: s->answer = layer->read(b, p, l, s->image, a.image_words, a.number, s->buffer, a.buffer_words); break;
+    case WRITE: s->answer = layer->write(b, p, l, s->image, a.image_words, a.number, s->buffer, a.buffer_words, n, n + 1); break;
+    default: s->answer = layer->release(b, p, l, s->image, a.image_words, a.number, n, n + 1); break;
     }
 }
 
@@ -329,8 +296,8 @@ static void compare_call(struct asked a, size_t n)
     for (int i = 0; i < 4; i++)
         theirs.count[i] = ours.count[i] = 77;
     memcpy(before, ours.image, n * sizeof *before);
-    call_ours(a);
-    call_theirs(a);
+    call(&library, &ours, a);
+    call(&second, &theirs, a);
 #ifdef SPOIL
     if (one_in(200))
         theirs.image[below((uint32_t)n)] ^= 1u << below(32);

@@ -30,9 +30,9 @@ pub fn tally(image: &[u32], geo: Geometry, b: usize) -> Tally
     let d = geo.d();
     let logical = geo.logical;
     let base = geo.entries_start(b);
-    let mut free = 0usize;
-    let mut live = 0usize;
-    let mut dead = 0usize;
+    let mut free = 0u32;
+    let mut live = 0u32;
+    let mut dead = 0u32;
     for i in 0..d {
         match slot_of(logical, image[base + i]) {
             Slot::Free => {
@@ -160,7 +160,7 @@ pub fn victim(image: &[u32], geo: Geometry) -> usize
 {
     let blocks = geo.blocks as usize;
     let mut best = 0usize;
-    let mut most = 0usize;
+    let mut most = 0u32;
     for b in 0..blocks {
         let slots = tally(image, geo, b);
         let dead = slots.dead;

@@ -18,7 +18,7 @@ pub enum Found {
 
 // How many slots of a block are free, live and dead.
 pub struct Tally {
-    pub free: usize,
-    pub live: usize,
-    pub dead: usize,
+    pub free: u32,
+    pub live: u32,
+    pub dead: u32,
 }

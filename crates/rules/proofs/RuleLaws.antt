@@ -1,31 +1,32 @@
 -- What the check of an image goes by: tests over a block's slots, read as the code reads them. Assumes nothing.
 use mathlib.Core.List.{List}
 use mathlib.Core.Path.{_≡_, refl, sym, ap, ap₂, _∙_}
-use mathlib.Core.Bool.{Bool, true, false, not, cond, _&&_, _||_, or-true, or-false, or-assoc}
+use mathlib.Core.Bool.{Bool, true, false, not, cond, Bool·beq, _&&_, _||_, and-true, and-false, or-true, or-false, or-assoc}
 use Prim.Native.Nat.{ℕ, zero, suc, _+_, _*_, _-_, _/_, _%_, _<_, _≤_}
 use native.Mathlib.Numerals.{add-one}
 use native.Mathlib.Decide.{ℕ-discrete}
 use native.Mathlib.Omega.{arith}
 use lib.Bits.{bitAnd, and-le-l, and-le-r, and-self}
 use lib.Dec.{eqb, ltb}
-use lib.ListN.{length, getD, take, drop, set, replicate, length-set, length-replicate, getD-replicate}
+use lib.ListN.{length, getD, set, replicate, length-replicate, getD-replicate}
 use lib.Seq.{getD-set-same, getD-set-other}
 use borrow.Author.Tests.{eq-eqb, ne-eqb, eqb-true, eqb-false, lt-ltb}
 use Rattle.ranges.specs.Range.{_implies_, allBelow, anyBelow, countBelow}
-use Rattle.ranges.proofs.Tests.{not-all}
+use Rattle.ranges.proofs.Tests.{both-pass, not-all}
 use Rattle.ranges.proofs.Sums.{any-count}
 use Rattle.bits.specs.Word.{ones, bit, isSet, cleared}
 use Rattle.bits.proofs.Bit.{set-bit, clear-bit, ones-bit}
 use Rattle.bits.proofs.Clearing.{cleared-here, cleared-other}
 use Rattle.geometry.specs.declared.Geometry.{Geometry}
-use Rattle.geometry.specs.Geometry.{d, sectorWords}
-use Rattle.geometry.specs.Places.{place, leastWord, greatestWord, entryWord, mapWord, contentWord}
+use Rattle.geometry.specs.Geometry.{d}
+use Rattle.geometry.specs.Places.{place, leastWord, greatestWord, entryWord, mapWord}
 use Rattle.image.specs.declared.Slot.{Slot}
 use Rattle.image.specs.declared.Slot.the-variants.{Live}
-use Rattle.image.specs.Words.{Image, word, leastMapped, greatestMapped, freeMap, entry, contents}
-use Rattle.image.specs.Slots.{slot, isFree, isFreeEntry, isLiveWith, isLiveFor, liveIn}
+use Rattle.image.specs.Words.{Image, word, leastMapped, greatestMapped, freeMap, mapBit, entry, contents}
+use Rattle.image.specs.Slots.{slot, isFree, isFreeEntry, isFaulty, isLiveWith, isLiveFor, liveIn}
 use Rattle.image.specs.Blocks.{blank}
-use Rattle.image.specs.WellFormed.{allOnes, liveBefore, R1, R2, R3, R4, R5, R6, R7, soundBlock, sound, wellFormed, brokenRule}
+use Rattle.image.specs.WellFormed.{allOnes, mapAgrees, restSet, liveBefore, R1, R2, R3, R4, R5, R6, R7}
+use Rattle.image.specs.WellFormed.{soundBlock, sound, wellFormed, brokenRule}
 use Rattle.rules.specs.Marks.{markWords, seen, Marks}
 use Rattle.image.proofs.Reading.{free-read}
 
@@ -33,6 +34,22 @@ use Rattle.image.proofs.Reading.{free-read}
 pub all-more : (i : ℕ) (f : ℕ → Bool) → allBelow i f ≡ true → f i ≡ true → allBelow (i + 1) f ≡ true
 unfolding allBelow
 all-more i f before here = rw (add-one i, before) here
+
+-- what a test says of every index so far, and of the next
+pub all-next : (i : ℕ) (f : ℕ → Bool) {so-far now : Bool} → so-far ≡ allBelow i f → now ≡ (so-far && f i) → now ≡ allBelow (i + 1) f
+unfolding allBelow
+all-next i f before here = rw (add-one i, ← before) here
+
+-- two tests of every index are one test of both
+all-both : (m : ℕ) (f g : ℕ → Bool) → allBelow m (λ i. f i && g i) ≡ (allBelow m f && allBelow m g)
+unfolding allBelow
+all-both zero f g = refl
+all-both (suc m) f g = rw (all-both m f g) (exchange (allBelow m f) (allBelow m g) (f m) (g m))
+  where
+    exchange : (a b x y : Bool) → (a && b && (x && y)) ≡ (a && x && (b && y))
+    exchange true true x y = refl
+    exchange true false x y = sym (and-false x)
+    exchange false b x y = refl
 
 -- two words have only ones in common exactly where both are ones
 pub and-ones : (a w : ℕ) → a ≤ ones → w ≤ ones → eqb (bitAnd a w) ones ≡ (eqb a ones && eqb w ones)
@@ -60,7 +77,7 @@ module _ (geo : Geometry) (image : Image) where
   unfolding freeMap
   map-read b i p e = ap (word image) e
 
-  pub entry-read : (b i p : ℕ) → p ≡ place geo b (entryWord geo i) → word image p ≡ entry geo image b i
+  entry-read : (b i p : ℕ) → p ≡ place geo b (entryWord geo i) → word image p ≡ entry geo image b i
   unfolding entry
   entry-read b i p e = ap (word image) e
 
@@ -68,28 +85,32 @@ module _ (geo : Geometry) (image : Image) where
   free-at : (b i p : ℕ) → p ≡ place geo b (entryWord geo i) → isFree (slot geo image b i) ≡ eqb (word image p) ones
   free-at b i p e = free-read geo image b i ∙ sym (ap isFreeEntry (entry-read b i p e))
 
-  -- R3's test of a slot, by its entry at p: it passes at one that is not free, and asks the part of the image that is its contents at one that is
+  -- R2's test of a slot, by its map word at p and its entry at q
+  abbrev pub agrees : ℕ → ℕ → Bool
+  agrees b i = Bool·beq (mapBit geo image b i) (isFreeEntry (entry geo image b i))
+
+  pub agrees-read :
+      (b i p q : ℕ) →
+      p ≡ place geo b (mapWord i) →
+      q ≡ place geo b (entryWord geo i) →
+      Bool·beq (isSet (word image p) (i % 32)) (isFreeEntry (word image q)) ≡ agrees b i
+  agrees-read b i p q at-map at-entry =
+      ap₂ (λ (w e : ℕ). Bool·beq (isSet w (i % 32)) (isFreeEntry e)) (map-read b i p at-map) (entry-read b i q at-entry)
+
+  -- R3's test of a slot, by its entry at p: it passes at one that is not free, and asks the contents at one that is
   abbrev pub clean : ℕ → ℕ → Bool
   clean b i = isFree (slot geo image b i) implies allOnes (contents geo image b i)
 
   pub clean-taken : (b i p : ℕ) → p ≡ place geo b (entryWord geo i) → (word image p ≡ ones → ⊥) → clean b i ≡ true
   clean-taken b i p e other = rw (free-at b i p e ∙ ne-eqb (word image p) ones other)
 
-  pub clean-free :
-      (b i p from : ℕ) →
-      p ≡ place geo b (entryWord geo i) →
-      word image p ≡ ones →
-      from ≡ place geo b (contentWord geo i 0) →
-      clean b i ≡ allOnes (take (from + sectorWords - from) (drop from image))
-  unfolding contents
-  clean-free b i p from e free at =
-      let long : from + sectorWords - from ≡ sectorWords = omega arith in
-      rw (free-at b i p e ∙ eq-eqb (word image p) ones free, long, at)
+  pub clean-free : (b i p : ℕ) → p ≡ place geo b (entryWord geo i) → word image p ≡ ones → clean b i ≡ allOnes (contents geo image b i)
+  clean-free b i p e free = rw (free-at b i p e ∙ eq-eqb (word image p) ones free)
 
 -- ---- the marks of R5
 
 -- after a number is marked it was seen, and every other number is as before
-seen-marked :
+pub seen-marked :
     (marks : List ℕ) (n m : ℕ) →
     n / 32 < length marks →
     seen (set marks (n / 32) (cleared (getD marks (n / 32) 0) (n % 32))) m ≡ (seen marks m || eqb n m)
@@ -134,10 +155,6 @@ module _ (geo : Geometry) (image : Image) where
   unfolding anyBelow
   marks-next {b} m = record { long = m .long; says = λ n l. m .says n l ∙ sym (or-false (liveBefore geo image b (d geo) n)) }
 
-  -- R5's test of slot i
-  abbrev pub fresh : ℕ → ℕ → Bool
-  fresh b i = not (isLiveWith (liveBefore geo image b i) (slot geo image b i))
-
   module _ {b i : ℕ} {marks : List ℕ} (m : Marks geo image b i marks) where
     -- marks that learn the number of slot i
     learnt :
@@ -155,24 +172,64 @@ module _ (geo : Geometry) (image : Image) where
               ∙ rw add-one (or-assoc (anyBelow b (λ c. liveIn geo image c n)) (anyBelow i (λ j. isLiveFor n (slot geo image b j))) (isLiveFor n (slot geo image b i)));
         }
 
-    -- a slot that is not live passes and leaves the marks
-    pub other-passes :
-        ((f : ℕ → Bool) → isLiveWith f (slot geo image b i) ≡ false) → Marks geo image b (i + 1) marks × (fresh b i ≡ true)
-    other-passes none =
-        (learnt marks refl (λ n. sym (ap (seen marks n ||_) (none (λ (k : ℕ). eqb k n)) ∙ or-false (seen marks n))), ap not (none (liveBefore geo image b i)))
+    -- a slot that is not live leaves the marks, and a live one has its number marked
+    pub other-learnt : ((f : ℕ → Bool) → isLiveWith f (slot geo image b i) ≡ false) → Marks geo image b (i + 1) marks
+    other-learnt none = learnt marks refl (λ n. sym (ap (seen marks n ||_) (none (λ (k : ℕ). eqb k n)) ∙ or-false (seen marks n)))
 
-    -- a live slot passes where its number is not marked yet, and is marked then
-    module _ (n : ℕ) (live : slot geo image b i ≡ Live n) where
-      pub live-passes : n < geo .logical → fresh b i ≡ not (seen marks n)
-      live-passes l = ap (λ (s : Slot). not (isLiveWith (liveBefore geo image b i) s)) live ∙ sym (ap not (m .says n l))
+    pub live-learnt :
+        (n : ℕ) →
+        slot geo image b i ≡ Live n →
+        (next : List ℕ) →
+        length next ≡ length marks →
+        ((k : ℕ) → seen next k ≡ (seen marks k || eqb n k)) →
+        Marks geo image b (i + 1) next
+    live-learnt n live next e more = learnt next e (λ k. more k ∙ sym (ap (λ (s : Slot). seen marks k || isLiveFor k s) live))
 
-      pub live-marked :
-          n / 32 < length marks →
-          Marks geo image b (i + 1) (set marks (n / 32) (cleared (getD marks (n / 32) 0) (n % 32)))
-      live-marked l =
-          learnt _
-          (length-set marks (n / 32) (cleared (getD marks (n / 32) 0) (n % 32)))
-          (λ k. seen-marked marks n k l ∙ sym (ap (λ (s : Slot). seen marks k || isLiveFor k s) live))
+-- ---- R2 to R5 in one pass
+
+module _ (geo : Geometry) (image : Image) where
+  -- the four tests of slot i
+  abbrev pub keeps : ℕ → ℕ → Bool
+  keeps b i =
+      agrees geo image b i
+      && clean geo image b i
+      && not (isFaulty (slot geo image b i))
+      && not (isLiveWith (liveBefore geo image b i) (slot geo image b i))
+
+  -- what is left of them where the map agrees with a slot whose kind is known
+  pub keeps-kind :
+      (b i : ℕ) {s : Slot} →
+      agrees geo image b i ≡ true →
+      slot geo image b i ≡ s →
+      keeps b i ≡ ((isFree s implies allOnes (contents geo image b i)) && not (isFaulty s) && not (isLiveWith (liveBefore geo image b i) s))
+  keeps-kind b i agree kind = rw (agree, kind)
+
+  -- with the map's bits from d on they are the four rules
+  abbrev pub fourRules : ℕ → Bool
+  fourRules b = R2 geo image b && R3 geo image b && R4 geo image b && R5 geo image b
+
+  pub keeps-rules : (b : ℕ) → restSet geo image b ≡ true → allBelow (d geo) (keeps b) ≡ fourRules b
+  unfolding R2 R3 R4 R5
+  keeps-rules b rest =
+      let agree : allBelow (d geo) (agrees geo image b) ≡ R2 geo image b = rw rest (sym (and-true (mapAgrees geo image b))) in
+      all-both (d geo) _ _
+      ∙ ap (_&& R5 geo image b)
+      (all-both (d geo) _ _
+      ∙ ap (_&& R4 geo image b) (all-both (d geo) (agrees geo image b) (clean geo image b) ∙ ap (_&& R3 geo image b) agree))
+
+  -- and without those bits R2 is broken
+  pub rest-breaks : (b : ℕ) → restSet geo image b ≡ false → fourRules b ≡ false
+  unfolding R2
+  rest-breaks b rest = rw (rest, and-false (mapAgrees geo image b))
+
+  -- the four rules one by one
+  pub four-kept :
+      (b : ℕ) → fourRules b ≡ true → (R2 geo image b ≡ true) × (R3 geo image b ≡ true) × (R4 geo image b ≡ true) × (R5 geo image b ≡ true)
+  four-kept b kept =
+      let to4 = both-pass (R2 geo image b && R3 geo image b && R4 geo image b) (R5 geo image b) kept in
+      let to3 = both-pass (R2 geo image b && R3 geo image b) (R4 geo image b) (to4 .0) in
+      let to2 = both-pass (R2 geo image b) (R3 geo image b) (to3 .0) in
+      (to2 .0, to2 .1, to3 .1, to4 .1)
 
 -- ---- the rules of a block and of the image together
 

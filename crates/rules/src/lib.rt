@@ -1,14 +1,15 @@
 // Whether an image is well formed: R1 to R7, each block in turn, and every word a bounded number of times.
-ghost use mathlib.Core.Bool.{true, not};
+ghost use mathlib.Core.Bool.{true, false, not, _&&_, _||_};
 ghost use mathlib.Core.Path.{_≡_};
-ghost use Prim.Native.Nat.{ℕ, suc, _<_};
+ghost use Prim.Native.Nat.{ℕ, suc, _*_, _<_};
+ghost use lib.Dec.{eqb, leb};
 ghost use lib.ListN.{length};
 ghost use Rattle.ranges.specs.Range.{allBelow};
 ghost use Rattle.geometry.specs.Geometry.{d, sectorWords};
-ghost use Rattle.image.specs.Words.{Shaped};
-ghost use Rattle.image.specs.Slots.{slot, isLiveWith};
+ghost use Rattle.image.specs.Words.{Shaped, contents};
+ghost use Rattle.image.specs.Slots.{slotOf, slot, isLiveWith};
 ghost use Rattle.image.specs.WellFormed.{allOnes, mapAgrees, restSet, outOfBounds, R1, R2, R3, R4, R5, R7, brokenRule, wellFormed};
-ghost use Rattle.rules.specs.Marks.{Marks};
+ghost use Rattle.rules.specs.Marks.{markWords, seen, Marks};
 use blocks::count_blank;
 use blocks::erase_count;
 use blocks::free_slots;
@@ -85,6 +86,18 @@ fn rule2(image: &[u32], geo: Geometry, b: usize) -> bool
     rest_set(image, geo, b)
 }
 
+// Whether all content words of slot i are ones.
+fn contents_clean(image: &[u32], geo: Geometry, b: usize, i: usize) -> bool
+    requires { ⌜ Shaped geo (now image) ⌝ }
+    requires { ⌜ b < geo .blocks ⌝ }
+    requires { ⌜ i < d geo ⌝ }
+    ensures { λ r. ⌜ r ≡ allOnes (contents geo (now (image .entry)) b i) ⌝ }
+{
+    let from = geo.contents_start(b, i);
+    let to = from + 128;
+    all_ones(&image[from..to])
+}
+
 // R3: all content words of a free slot are ones.
 fn rule3(image: &[u32], geo: Geometry, b: usize) -> bool
     requires { ⌜ Shaped geo (now image) ⌝ }
@@ -95,9 +108,7 @@ fn rule3(image: &[u32], geo: Geometry, b: usize) -> bool
     let entries = geo.entries_start(b);
     for i in 0..d {
         if image[entries + i] == 0xFFFF_FFFF {
-            let from = geo.contents_start(b, i);
-            let to = from + 128;
-            if !all_ones(&image[from..to]) {
+            if !contents_clean(image, geo, b, i) {
                 return false;
             }
         }
@@ -126,31 +137,67 @@ fn rule4(image: &[u32], geo: Geometry, b: usize) -> bool
     true
 }
 
-// R5: no number of block b is live in an earlier slot. The marks know the earlier blocks' numbers and learn this one's.
-fn rule5(image: &[u32], geo: Geometry, b: usize, marks: &mut [u32]) -> bool
+// Marks the number n. Whether it was not marked before.
+fn mark(marks: &mut [u32], n: u32) -> bool
+    requires { ⌜ length (now marks) ≡ markWords ⌝ }
+    requires { ⌜ n < 32 * markWords ⌝ }
+    ensures { λ r. ⌜ r ≡ not (seen (now (marks .entry)) n) ⌝ }
+    ensures { λ r. ⌜ ((m : ℕ) → seen (now (marks .exit)) m ≡ (seen (now (marks .entry)) m || eqb n m)) ⌝ }
+{
+    let at = (n / 32) as usize;
+    let new = bits::is_set(marks[at], n % 32);
+    marks[at] = bits::clear_bit(marks[at], n % 32);
+    new
+}
+
+// R2 to R5 in one pass over the slots. The marks know the earlier blocks' numbers and learn this one's.
+fn rules_2_to_5(image: &[u32], geo: Geometry, b: usize, marks: &mut [u32]) -> bool
     requires { ⌜ Shaped geo (now image) ⌝ }
     requires { ⌜ b < geo .blocks ⌝ }
     requires { ⌜ Marks geo (now image) b 0 (now marks) ⌝ }
-    ensures { λ r. ⌜ r ≡ R5 geo (now (image .entry)) b ⌝ }
+    ensures { λ r. ⌜ r ≡ (R2 geo (now (image .entry)) b && R3 geo (now (image .entry)) b
+        && R4 geo (now (image .entry)) b && R5 geo (now (image .entry)) b) ⌝ }
     ensures { λ r. ⌜ (r ≡ true → Marks geo (now (image .entry)) (suc b) 0 (now (marks .exit))) ⌝ }
 {
+    if !rest_set(image, geo, b) {
+        return false;
+    }
     let d = geo.d();
+    let map = geo.map_start(b);
     let entries = geo.entries_start(b);
     for i in 0..d {
-        match slot_of(geo.logical, image[entries + i]) {
-            Slot::Live(n) => {
-                let at = (n / 32) as usize;
-                if !bits::is_set(marks[at], n % 32) {
+        let entry = image[entries + i];
+        let set = bits::is_set(image[map + i / 32], (i % 32) as u32);
+        if set != (entry == 0xFFFF_FFFF) {
+            return false;
+        }
+        match slot_of(geo.logical, entry) {
+            Slot::Free => {
+                if !contents_clean(image, geo, b, i) {
                     return false;
                 }
-                marks[at] = bits::clear_bit(marks[at], n % 32);
             }
-            Slot::Free => {}
+            Slot::Live(n) => {
+                if !mark(marks, n) {
+                    return false;
+                }
+            }
             Slot::Dead => {}
-            Slot::Faulty => {}
+            Slot::Faulty => {
+                return false;
+            }
         }
     }
     true
+}
+
+// Whether the number of an entry, if it is live, lies between the two words. There is no branch here and no way out of the loop that
+// calls it, so that the compiler takes several entries at a time.
+fn bounded(logical: u32, entry: u32, least: u32, greatest: u32) -> bool
+    ensures { λ r. ⌜ r ≡ not (isLiveWith (λ n. not (leb least n && leb n greatest)) (slotOf logical entry)) ⌝ }
+{
+    let n = entry % 0x2000_0000;
+    (entry / 0x2000_0000 != 6) | (logical <= n) | (least <= n) & (n <= greatest)
 }
 
 // R7 of a full block: word 1 is at most every live number, and word 2 at least.
@@ -160,26 +207,16 @@ fn live_in_bounds(image: &[u32], geo: Geometry, b: usize) -> bool
     ensures { λ r. ⌜ r ≡ allBelow (d geo) (λ i. not (isLiveWith (outOfBounds geo (now (image .entry)) b) (slot geo (now (image .entry)) b i))) ⌝ }
 {
     let d = geo.d();
+    let logical = geo.logical;
     let start = geo.start(b);
     let least = image[start + 1];
     let greatest = image[start + 2];
     let entries = geo.entries_start(b);
+    let mut inside = true;
     for i in 0..d {
-        match slot_of(geo.logical, image[entries + i]) {
-            Slot::Live(n) => {
-                if n < least {
-                    return false;
-                }
-                if greatest < n {
-                    return false;
-                }
-            }
-            Slot::Free => {}
-            Slot::Dead => {}
-            Slot::Faulty => {}
-        }
+        inside = inside & bounded(logical, image[entries + i], least, greatest);
     }
-    true
+    inside
 }
 
 // R7, of a block whose map agrees with its entries.
@@ -199,6 +236,27 @@ fn rule7(image: &[u32], geo: Geometry, b: usize) -> bool
     image[start + 2] == 0xFFFF_FFFF
 }
 
+// The first of R2 to R5 that block b breaks, where it breaks one of them.
+fn first_of_2_to_5(image: &[u32], geo: Geometry, b: usize) -> u32
+    requires { ⌜ Shaped geo (now image) ⌝ }
+    requires { ⌜ b < geo .blocks ⌝ }
+    requires { ⌜ R1 geo (now image) b ≡ true ⌝ }
+    requires { ⌜ (R2 geo (now image) b && R3 geo (now image) b && R4 geo (now image) b && R5 geo (now image) b) ≡ false ⌝ }
+    ensures { λ r. ⌜ r ≡ brokenRule geo (now (image .entry)) b ⌝ }
+    ensures { λ r. ⌜ 0 < r ⌝ }
+{
+    if !rule2(image, geo, b) {
+        return 2;
+    }
+    if !rule3(image, geo, b) {
+        return 3;
+    }
+    if !rule4(image, geo, b) {
+        return 4;
+    }
+    5
+}
+
 // The number of the first rule that block b breaks, of R1 to R5 and R7 in that order; 0 where it keeps them all.
 pub fn broken_rule(image: &[u32], geo: Geometry, b: usize, marks: &mut [u32]) -> u32
     requires { ⌜ Shaped geo (now image) ⌝ }
@@ -210,17 +268,8 @@ pub fn broken_rule(image: &[u32], geo: Geometry, b: usize, marks: &mut [u32]) ->
     if !rule1(image, geo, b) {
         return 1;
     }
-    if !rule2(image, geo, b) {
-        return 2;
-    }
-    if !rule3(image, geo, b) {
-        return 3;
-    }
-    if !rule4(image, geo, b) {
-        return 4;
-    }
-    if !rule5(image, geo, b, marks) {
-        return 5;
+    if !rules_2_to_5(image, geo, b, marks) {
+        return first_of_2_to_5(image, geo, b);
     }
     if !rule7(image, geo, b) {
         return 7;

@@ -125,9 +125,9 @@ fn add_up(image: &[u32], geo: Geometry) -> Totals
     let mut erase_sum = 0u32;
     for b in 0..blocks {
         let slots = blocks::tally(image, geo, b);
-        mapped += slots.live as u32;
-        free += slots.free as u32;
-        dead += slots.dead as u32;
+        mapped += slots.live;
+        free += slots.free;
+        dead += slots.dead;
         erase_sum += blocks::erase_count(image, geo, b);
     }
     Totals {

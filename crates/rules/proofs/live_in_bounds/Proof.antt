@@ -1,38 +1,33 @@
--- `rules::live_in_bounds` meets its contract: the live numbers passed lie between the two words, and the first that does not decides.
-use mathlib.Core.Path.{_≡_, refl, sym, ap, _∙_}
-use mathlib.Core.Logic.{⊎-elim}
-use mathlib.Core.Bool.{Bool, true, not, _&&_}
+-- `rules::live_in_bounds` meets its contract: whether the live numbers of the slots passed lie between the two words.
+use mathlib.Core.Path.{_≡_, refl, ap, _∙_}
+use mathlib.Core.Bool.{Bool, not, _&&_}
 use Prim.Native.Nat.{ℕ, _+_, _-_, _<_, _≤_}
 use native.Mathlib.Omega.{arith}
 use borrow.Author.Needs.{needs}
-use borrow.Author.Tests.{le-leb, lt-leb}
 use lib.Dec.{leb}
-use lib.ListN.{length, getD}
+use lib.ListN.{length}
 use Rattle.ranges.specs.Range.{allBelow}
-use Rattle.ranges.proofs.Tests.{not-all}
-use Rattle.geometry.specs.declared.Geometry.{Geometry}
+use Rattle.ranges.proofs.Tests.{all-ext}
 use Rattle.geometry.specs.Geometry.{d}
 use Rattle.geometry.specs.Places.{place, entryWord}
 use Rattle.image.specs.declared.Slot.{Slot}
-use Rattle.image.specs.declared.Slot.the-variants.{Live}
 use Rattle.image.specs.Words.{Image}
 use Rattle.image.specs.Slots.{slot, isLiveWith}
-use Rattle.image.specs.WellFormed.{outOfBounds}
-use Rattle.image.proofs.Reading.{word-inside, entry-inside, slot-read}
-use Rattle.rules.proofs.RuleLaws.{all-more, bounds-read}
+use Rattle.image.proofs.Reading.{word-inside, entry-inside, slotFrom, slot-read}
+use Rattle.rules.proofs.RuleLaws.{all-next, bounds-read}
 use Rattle.rules.proofs.live_in_bounds.Statement.{statement}
 use Rattle.rules.proofs.live_in_bounds.Tie as tie
 
 -- the test of a slot, by its kind
-abbrev bounded : Geometry → Image → ℕ → Slot → Bool
-bounded geo image b s = not (isLiveWith (outOfBounds geo image b) s)
+abbrev fits : ℕ → ℕ → Slot → Bool
+fits least greatest s = not (isLiveWith (λ n. not (leb least n && leb n greatest)) s)
 
 abbrev Inv-loop : tie.InvT-loop
-Inv-loop image geo b d start least greatest entries i₀ i =
-    (i ≤ d) × (allBelow i (λ n. bounded geo image b (slot geo image b n)) ≡ true)
+Inv-loop image b d logical start least greatest entries inside₀ i₀ inside i =
+    (i ≤ d) × (inside ≡ allBelow i (λ j. fits least greatest (slotFrom image logical entries j)))
 
 abbrev μ-loop : tie.MeasureT-loop
-μ-loop image geo b d start least greatest entries i₀ i = d - i
+μ-loop image b d logical start least greatest entries inside₀ i₀ inside i = d - i
 
 d-requires : tie.Need-d-requires Inv-loop μ-loop
 d-requires c κs = search needs
@@ -78,76 +73,17 @@ entry-room c =
     let start = c .before .before .before .before .before .before .before .before in
     entry-inside _ _ (start .pre .0) (start .pre .1) (omega arith)
 
-add-slot-of : tie.Need-add-slot-of Inv-loop μ-loop
-add-slot-of c = omega (arith, entry-room c)
+add-bounded : tie.Need-add-bounded Inv-loop μ-loop
+add-bounded c = omega (arith, entry-room c)
 
-mul-slot-of : tie.Need-mul-slot-of Inv-loop μ-loop
-mul-slot-of c = omega (arith, entry-room c)
+mul-bounded : tie.Need-mul-bounded Inv-loop μ-loop
+mul-bounded c = omega (arith, entry-room c)
 
-shared-slice-read-slot-of : tie.Need-shared-slice-read-slot-of Inv-loop μ-loop
-shared-slice-read-slot-of c = omega (arith, entry-room (c .before))
+shared-slice-read-bounded : tie.Need-shared-slice-read-bounded Inv-loop μ-loop
+shared-slice-read-bounded c = omega (arith, entry-room (c .before))
 
-slot-of-requires : tie.Need-slot-of-requires Inv-loop μ-loop
-slot-of-requires c κs = search needs
-
-enum-known-n : tie.Need-enum-known-n Inv-loop μ-loop
-enum-known-n c = search needs
-
--- the turn of slot i, whose kind is known
-module _ (c : tie.After-slot-of Inv-loop μ-loop) where
-  abbrev turn : tie.At-loop Inv-loop μ-loop
-  turn = c .before .before .before
-
-  abbrev begin : tie.After-start Inv-loop μ-loop
-  begin = turn .before .before .before .before
-
-  abbrev start : tie.Start Inv-loop μ-loop
-  start = begin .before .before .before
-
-  abbrev least : ℕ
-  least = getD (start .args .image .now) (begin .start .result + 1) 0
-
-  abbrev greatest : ℕ
-  greatest = getD (start .args .image .now) (begin .start .result + 2) 0
-
-  abbrev test : Slot → Bool
-  test = bounded (start .args .geo) (start .args .image .now) (start .args .b)
-
-  abbrev here : Bool
-  here = test (slot (start .args .geo) (start .args .image .now) (start .args .b) (turn .loop .i))
-
-  -- the test of slot i is that of its kind, and of a live slot that of the words read
-  test-is : {s : Slot} → c .slot-of .result ≡ s → here ≡ test s
-  test-is kind = ap test (sym (c .slot-of .ensures ∙ slot-read _ _ (start .args .b) (turn .loop .i) _ (omega arith)) ∙ kind)
-
-  live-is : (n : ℕ) → c .slot-of .result ≡ Live n → here ≡ not (not (leb least n && leb n greatest))
-  live-is n kind =
-      test-is kind
-      ∙ sym (bounds-read _ _ (λ (l g : ℕ). not (not (leb l n && leb n g))) (start .args .b) _ _ (omega arith) (omega arith))
-
-returns : tie.Need-returns Inv-loop μ-loop
-returns c =
-    let found = c .before .before in
-    let at = found .before .before in
-    let below = lt-leb (least at) (found .n .given .0 .0) (c .if1 .taken) in
-    sym (not-all (d (start at .args .geo)) _ (omega arith) (live-is at _ (found .n .given .1) ∙ rw below))
-
-returns-2 : tie.Need-returns-2 Inv-loop μ-loop
-returns-2 c =
-    let found = c .before .before .before in
-    let at = found .before .before in
-    let low = le-leb (least at) (found .n .given .0 .0) (c .before .if1 .left) in
-    let above = lt-leb (found .n .given .0 .0) (greatest at) (c .if2 .taken) in
-    sym (not-all (d (start at .args .geo)) _ (omega arith) (live-is at _ (found .n .given .1) ∙ rw (low, above)))
-
-enum-told : tie.Need-enum-told Inv-loop μ-loop
-enum-told c = search needs
-
-enum-told-2 : tie.Need-enum-told-2 Inv-loop μ-loop
-enum-told-2 c = search needs
-
-enum-told-3 : tie.Need-enum-told-3 Inv-loop μ-loop
-enum-told-3 c = search needs
+bounded-requires : tie.Need-bounded-requires Inv-loop μ-loop
+bounded-requires c κs = search needs
 
 add-i : tie.Need-add-i Inv-loop μ-loop
 add-i c = omega arith
@@ -157,24 +93,19 @@ loop-less c = omega arith
 
 loop-again : tie.Need-loop-again Inv-loop μ-loop
 loop-again c =
-    let at = c .before in
-    let loop = turn at .loop in (
-      omega arith,
-      all-more (loop .i) _ (loop .inv .1)
-          (⊎-elim
-          (λ w.
-          let low = le-leb (least at) (w .1 .given .0 .0) (w .3 .left) in
-          let high = le-leb (w .1 .given .0 .0) (greatest at) (w .4 .left) in
-          live-is at _ (w .1 .given .1) ∙ rw (low, high))
-          (⊎-elim (λ w. test-is at (w .1 .given .1)) (⊎-elim (λ w. test-is at (w .1 .given .1)) (λ w. test-is at (w .1 .given .1))))
-          (c .match .came)),
-    )
+    let loop = c .before .before .before .loop in
+    (omega arith, all-next (loop .i) _ (loop .inv .1) (ap (λ (x : Bool). loop .inside && x) (c .bounded .ensures)))
 
-returns-3 : tie.Need-returns-3 Inv-loop μ-loop
-returns-3 c =
+returns : tie.Need-returns Inv-loop μ-loop
+returns c =
     let turn = c .before in
-    let end : turn .loop .i ≡ d (turn .before .before .before .before .before .before .before .args .geo) = omega arith in
-    sym (rw end at (turn .loop .inv .1))
+    let begin = turn .before .before .before .before in
+    let a = begin .before .before .before .args in
+    let end : turn .loop .i ≡ d (a .geo) = omega arith in
+    rw end at (turn .loop .inv .1)
+    ∙ all-ext (d (a .geo)) (λ j l.
+    ap (fits _ _) (slot-read (a .geo) (a .image .now) (a .b) j (turn .before .entries-start .result + j) (omega arith))
+    ∙ bounds-read (a .geo) (a .image .now) (λ (low high : ℕ). fits low high (slot (a .geo) (a .image .now) (a .b) j)) (a .b) _ _ (omega arith) (omega arith))
 
 pub live-in-bounds-spec : {M : Type 1} → statement M
 live-in-bounds-spec =
@@ -192,17 +123,11 @@ live-in-bounds-spec =
     shared-slice-read-greatest
     entries-start-requires
     loop-holds
-    add-slot-of
-    mul-slot-of
-    shared-slice-read-slot-of
-    slot-of-requires
-    enum-known-n
-    returns
-    returns-2
-    enum-told
-    enum-told-2
-    enum-told-3
+    add-bounded
+    mul-bounded
+    shared-slice-read-bounded
+    bounded-requires
     add-i
     loop-less
     loop-again
-    returns-3)
+    returns)

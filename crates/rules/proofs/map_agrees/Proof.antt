@@ -1,5 +1,5 @@
 -- `rules::map_agrees` meets its contract: the test passes at every slot passed, and decides at the first where it fails.
-use mathlib.Core.Path.{_≡_, refl, sym, ap₂, _∙_}
+use mathlib.Core.Path.{_≡_, refl, sym, _∙_}
 use mathlib.Core.Bool.{Bool, true, Bool·beq}
 use mathlib.Core.List.{List}
 use Prim.Native.Nat.{ℕ, _+_, _-_, _/_, _%_, _<_, _≤_}
@@ -16,7 +16,7 @@ use Rattle.geometry.specs.Places.{place, mapWord, entryWord}
 use Rattle.geometry.proofs.Laws.{map-covers}
 use Rattle.image.specs.WellFormed.{mapAgrees}
 use Rattle.image.proofs.Reading.{map-inside, entry-inside}
-use Rattle.rules.proofs.RuleLaws.{all-more, map-read, entry-read}
+use Rattle.rules.proofs.RuleLaws.{all-more, agrees-read}
 use Rattle.rules.proofs.map_agrees.Statement.{statement}
 use Rattle.rules.proofs.map_agrees.Tie as tie
 
@@ -89,10 +89,7 @@ rule c =
     let start = c .before .before .before .before .before in
     rw (c .before .before .before .d .ensures)
     (all-ext (d (start .args .geo))
-    (λ i l.
-    ap₂ (λ (w e : ℕ). Bool·beq (isSet w (i % 32)) (eqb e ones))
-    (map-read _ _ (start .args .b) i _ (omega arith))
-    (entry-read _ _ (start .args .b) i _ (omega arith))))
+    (λ i l. agrees-read _ _ (start .args .b) i _ _ (omega arith) (omega arith)))
 
 -- what the branch tests is the test of slot i
 decided : (c : tie.After-shared-slice-known3 Inv-loop μ-loop)

@@ -6,13 +6,13 @@ use Prim.Native.Nat.{_+_, _-_, _<_, _≤_}
 use native.Mathlib.Omega.{arith}
 use borrow.Author.Needs.{needs}
 use borrow.Author.Tests.{not-true, not-false}
-use lib.ListN.{length, length-take, length-drop}
+use lib.ListN.{length}
 use Rattle.ranges.specs.Range.{allBelow}
 use Rattle.ranges.proofs.Tests.{not-all}
-use Rattle.geometry.specs.Geometry.{d, sectorWords}
-use Rattle.geometry.specs.Places.{place, entryWord, contentWord}
+use Rattle.geometry.specs.Geometry.{d}
+use Rattle.geometry.specs.Places.{place, entryWord}
 use Rattle.image.specs.WellFormed.{R3}
-use Rattle.image.proofs.Reading.{entry-inside, contents-inside}
+use Rattle.image.proofs.Reading.{entry-inside}
 use Rattle.rules.proofs.RuleLaws.{all-more, clean, clean-taken, clean-free}
 use Rattle.rules.proofs.rule3.Statement.{statement}
 use Rattle.rules.proofs.rule3.Tie as tie
@@ -33,16 +33,13 @@ loop-holds : tie.Need-loop-holds Inv-loop μ-loop
 unfolding allBelow
 loop-holds c = (omega arith, refl)
 
--- the entry and the contents of slot i lie in the image
-module _ (c : tie.In-loop Inv-loop μ-loop) where
-  abbrev start : tie.Start Inv-loop μ-loop
-  start = c .before .before .before .before .before
-
-  entry-room : place (start .args .geo) (start .args .b) (entryWord (start .args .geo) (c .before .loop .i)) < length (start .args .image .now)
-  entry-room = entry-inside _ _ (start .pre .0) (start .pre .1) (omega arith)
-
-  contents-room : place (start .args .geo) (start .args .b) (contentWord (start .args .geo) (c .before .loop .i) 0) + sectorWords ≤ length (start .args .image .now)
-  contents-room = contents-inside _ _ (start .pre .0) (start .pre .1) (omega arith)
+-- the entry of slot i lies in the image
+entry-room : (c : tie.In-loop Inv-loop μ-loop)
+    → let start = c .before .before .before .before .before in
+    place (start .args .geo) (start .args .b) (entryWord (start .args .geo) (c .before .loop .i)) < length (start .args .image .now)
+entry-room c =
+    let start = c .before .before .before .before .before in
+    entry-inside _ _ (start .pre .0) (start .pre .1) (omega arith)
 
 add-if1 : tie.Need-add-if1 Inv-loop μ-loop
 add-if1 c = omega (arith, entry-room c)
@@ -53,39 +50,19 @@ mul-if1 c = omega (arith, entry-room c)
 shared-slice-read-if1 : tie.Need-shared-slice-read-if1 Inv-loop μ-loop
 shared-slice-read-if1 c = omega (arith, entry-room (c .before))
 
-contents-start-requires : tie.Need-contents-start-requires Inv-loop μ-loop
-contents-start-requires c κs = search needs
-
-add-to : tie.Need-add-to Inv-loop μ-loop
-add-to c = omega (arith, contents-room (c .before .before .before))
-
-mul-all-ones : tie.Need-mul-all-ones Inv-loop μ-loop
-mul-all-ones c = omega (arith, contents-room (c .before .before .before))
-
-sub-all-ones : tie.Need-sub-all-ones Inv-loop μ-loop
-sub-all-ones c = omega arith
-
-part-all-ones-start : tie.Need-part-all-ones-start Inv-loop μ-loop
-part-all-ones-start c = omega arith
-
-part-all-ones-end : tie.Need-part-all-ones-end Inv-loop μ-loop
-part-all-ones-end c = omega (arith, contents-room (c .before .before .before))
-
-all-ones-requires : tie.Need-all-ones-requires Inv-loop μ-loop
-all-ones-requires c κs =
-    simp (length-take, length-drop) (omega (arith, contents-room (c .before .before .before .before)))
+contents-clean-requires : tie.Need-contents-clean-requires Inv-loop μ-loop
+contents-clean-requires c κs = search needs
 
 returns : tie.Need-returns Inv-loop μ-loop
 unfolding R3
 returns c =
-    let found = c .before .before .before .before in
+    let found = c .before .before in
     let turn = found .before .before .before in
     let start = turn .before .before .before .before in
     let at = turn .before .entries-start .result + turn .loop .i in
-    let contents-start = c .before .before .before .contents-start in
     let dirty : clean (start .args .geo) (start .args .image .now) (start .args .b) (turn .loop .i) ≡ false =
-    clean-free _ _ _ (turn .loop .i) at (contents-start .result) (omega arith) (found .if1 .taken) (omega arith)
-    ∙ sym (c .before .all-ones .ensures)
+    clean-free _ _ _ (turn .loop .i) at (omega arith) (found .if1 .taken)
+    ∙ sym (c .before .contents-clean .ensures)
     ∙ not-true _ (c .if2 .taken) in
     sym (not-all (d (start .args .geo)) _ (omega arith) dirty)
 
@@ -102,7 +79,7 @@ loop-again c =
     let at = turn .before .entries-start .result + turn .loop .i in
     let here : clean (start .args .geo) (start .args .image .now) (start .args .b) (turn .loop .i) ≡ true =
     ⊎-elim
-    (λ w. clean-free _ _ _ (turn .loop .i) at (w .1 .result) (omega arith) (w .0 .taken) (w .1 .ensures) ∙ sym (w .3 .ensures) ∙ not-false _ (w .4 .left))
+    (λ w. clean-free _ _ _ (turn .loop .i) at (omega arith) (w .0 .taken) ∙ sym (w .1 .ensures) ∙ not-false _ (w .2 .left))
     (λ w. clean-taken _ _ _ (turn .loop .i) at (omega arith) (w .left))
     (c .if1 .came) in
     (omega arith, all-more (turn .loop .i) _ (turn .loop .inv .1) here)
@@ -127,13 +104,7 @@ rule3-spec =
     add-if1
     mul-if1
     shared-slice-read-if1
-    contents-start-requires
-    add-to
-    mul-all-ones
-    sub-all-ones
-    part-all-ones-start
-    part-all-ones-end
-    all-ones-requires
+    contents-clean-requires
     returns
     add-i
     loop-less

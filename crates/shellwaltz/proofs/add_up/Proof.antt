@@ -91,20 +91,11 @@ loop-holds c = (omega arith, refl, refl, refl, refl)
 tally-requires : tie.Need-tally-requires Inv-loop μ-loop
 tally-requires c κs = search needs
 
-cast-mapped : tie.Need-cast-mapped Inv-loop μ-loop
-cast-mapped c = omega (arith, counted (c .before))
-
 add-mapped : tie.Need-add-mapped Inv-loop μ-loop
 add-mapped c = omega (arith, counted (c .before))
 
-cast-free : tie.Need-cast-free Inv-loop μ-loop
-cast-free c = omega (arith, counted (c .before .before))
-
 add-free : tie.Need-add-free Inv-loop μ-loop
 add-free c = omega (arith, counted (c .before .before))
-
-cast-dead : tie.Need-cast-dead Inv-loop μ-loop
-cast-dead c = omega (arith, counted (c .before .before .before))
 
 add-dead : tie.Need-add-dead Inv-loop μ-loop
 add-dead c = omega (arith, counted (c .before .before .before))
@@ -156,11 +147,8 @@ add-up-spec =
     cast-blocks
     loop-holds
     tally-requires
-    cast-mapped
     add-mapped
-    cast-free
     add-free
-    cast-dead
     add-dead
     erase-count-requires
     add-erase-sum
