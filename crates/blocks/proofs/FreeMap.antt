@@ -2,16 +2,18 @@
 use mathlib.Core.Path.{_≡_, refl, sym, ap, ap₂, _∙_}
 use mathlib.Core.Logic.{⊎-elim}
 use mathlib.Core.Bool.{true, false, not, _&&_, and-false}
-use Prim.Native.Nat.{ℕ, zero, suc, _+_, _*_, _-_, _/_, _%_, _<_, _≤_}
+use Prim.Native.Nat.{ℕ, zero, suc, _+_, _*_, _-_, _/_, _%_, _^_, _<_, _≤_}
+use native.Mathlib.Decide.{decLt}
 use native.Mathlib.Omega.{arith}
 use lib.Dec.{eqb}
 use borrow.Author.Tests.{eq-eqb, ne-eqb}
 use lib.ListN.{length}
 use Rattle.ranges.specs.Range.{one-if, sumBelow, countBelow}
-use Rattle.ranges.proofs.Tests.{below-suc}
+use Rattle.ranges.proofs.Tests.{below-suc, all-at}
 use Rattle.ranges.proofs.Sums.{sum-cut, count-le, count-ext, count-every}
 use Rattle.ranges.proofs.Searches.{best-le, best-passes, best-none, first-before, first-is}
-use Rattle.bits.specs.Word.{isSet, lowestSet, setBits}
+use Rattle.bits.specs.Word.{ones, isSet, lowestSet, setBits}
+use Rattle.bits.proofs.Bit.{bit-set, ones-bit, bits-same}
 use Rattle.geometry.specs.declared.Geometry.{Geometry}
 use Rattle.geometry.specs.Geometry.{d, k, Limits}
 use Rattle.geometry.specs.Places.{place, mapWord}
@@ -60,6 +62,23 @@ module _ (geo : Geometry) (image : Image) (b base : ℕ) (starts : base ≡ plac
       ∙ ap₂ _+_
       (count-ext (d geo) (map-says geo image b agrees))
       (count-every rest (λ i l. map-rest geo image b agrees (d geo + i) (omega arith) (omega arith)))
+
+  -- the first map word of a blank block is all ones
+  pub blank-first :
+      Limits geo → R2 geo image b ≡ true → word image base < 2 ^ 32 → blank geo image b ≡ true → word image base ≡ ones
+  unfolding blank
+  blank-first limits agrees small every =
+      bits-same 32 (word image base) ones small (omega arith) (λ j l. bit-set _ j (set j l) ∙ sym (ones-bit 32 j l))
+    where
+      set : (j : ℕ) → j < 32 → isSet (word image base) j ≡ true
+      set j l =
+          let at : 0 * 32 + j ≡ j = omega arith in
+          let first : base + 0 ≡ base = omega arith in
+          sym (rw (at, first) at (word-bit 0 j l)) ∙ go (decLt j (d geo))
+        where
+          go : Dec (j < d geo) → mapBit geo image b j ≡ true
+          go (yes h) = map-says geo image b agrees j h ∙ all-at (d geo) _ every j h
+          go (no h) = map-rest geo image b agrees j (omega arith) (omega (arith, map-covers geo limits, limits .sectors-low))
 
   -- where no bit of the words before m is set, no slot before word m's lowest set bit is free
   none-before :

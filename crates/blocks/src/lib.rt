@@ -109,6 +109,20 @@ pub fn lowest_open(image: &[u32], geo: Geometry) -> usize
     blocks
 }
 
+// Whether block b is blank. Its first map word tells of most blocks that they are not.
+fn is_blank(image: &[u32], geo: Geometry, b: usize) -> bool
+    requires { ⌜ Shaped geo (now image) ⌝ }
+    requires { ⌜ b < geo .blocks ⌝ }
+    requires { ⌜ R2 geo (now image) b ≡ true ⌝ }
+    ensures { λ r. ⌜ r ≡ blank geo (now (image .entry)) b ⌝ }
+{
+    let map = geo.map_start(b);
+    if image[map] != 0xFFFF_FFFF {
+        return false;
+    }
+    free_slots(image, geo, b) == geo.d()
+}
+
 // How many blocks are blank.
 pub fn count_blank(image: &[u32], geo: Geometry) -> usize
     requires { ⌜ Shaped geo (now image) ⌝ }
@@ -116,10 +130,9 @@ pub fn count_blank(image: &[u32], geo: Geometry) -> usize
     ensures { λ r. ⌜ r ≡ countBelow (geo .blocks) (blank geo (now (image .entry))) ⌝ }
 {
     let blocks = geo.blocks as usize;
-    let d = geo.d();
     let mut count = 0usize;
     for b in 0..blocks {
-        if free_slots(image, geo, b) == d {
+        if is_blank(image, geo, b) {
             count += 1;
         }
     }
@@ -133,11 +146,10 @@ pub fn least_worn_blank(image: &[u32], geo: Geometry) -> usize
     ensures { λ r. ⌜ r ≡ leastWornBlank geo (now (image .entry)) ⌝ }
 {
     let blocks = geo.blocks as usize;
-    let d = geo.d();
     // none so far: the number of the blocks passed
     let mut best = 0usize;
     for b in 0..blocks {
-        let blank = free_slots(image, geo, b) == d;
+        let blank = is_blank(image, geo, b);
         if best < b {
             if blank {
                 if erase_count(image, geo, b) < erase_count(image, geo, best) {

@@ -1,5 +1,5 @@
 -- `blocks::least_worn_blank` meets its contract: `best` is the definition's answer for the blocks passed.
-use mathlib.Core.Path.{_≡_, refl, _∙_}
+use mathlib.Core.Path.{_≡_, refl, sym, _∙_}
 use mathlib.Core.Logic.{⊎-elim}
 use Prim.Native.Nat.{_-_, _≤_}
 use native.Mathlib.Omega.{arith}
@@ -9,28 +9,25 @@ use Rattle.ranges.specs.Range.{bestBelow}
 use Rattle.ranges.proofs.Searches.{best-found, best-missing, best-beaten, best-stays}
 use Rattle.image.specs.Words.{eraseCount}
 use Rattle.image.specs.Blocks.{blank, lessWorn, leastWornBlank}
-use Rattle.blocks.proofs.FreeMap.{may-count, blank-by}
+use Rattle.blocks.proofs.FreeMap.{may-count}
 use Rattle.blocks.proofs.least_worn_blank.Statement.{statement}
 use Rattle.blocks.proofs.least_worn_blank.Tie as tie
 
 abbrev Inv-loop : tie.InvT-loop
-Inv-loop image geo blocks d best₀ b₀ best b = (b ≤ blocks) × (best ≡ bestBelow (lessWorn geo image) b (blank geo image))
+Inv-loop image geo blocks best₀ b₀ best b = (b ≤ blocks) × (best ≡ bestBelow (lessWorn geo image) b (blank geo image))
 
 abbrev μ-loop : tie.MeasureT-loop
-μ-loop image geo blocks d best₀ b₀ best b = blocks - b
+μ-loop image geo blocks best₀ b₀ best b = blocks - b
 
 cast-blocks : tie.Need-cast-blocks Inv-loop μ-loop
 cast-blocks c = search needs
-
-d-requires : tie.Need-d-requires Inv-loop μ-loop
-d-requires c κs = search needs
 
 loop-holds : tie.Need-loop-holds Inv-loop μ-loop
 unfolding bestBelow
 loop-holds c = (omega arith, refl)
 
-free-slots-requires : tie.Need-free-slots-requires Inv-loop μ-loop
-free-slots-requires c κs = may-count (c .before .before .before .before .before .pre) (omega arith)
+is-blank-requires : tie.Need-is-blank-requires Inv-loop μ-loop
+is-blank-requires c κs = may-count (c .before .before .before .before .pre) (omega arith)
 
 erase-count-requires : tie.Need-erase-count-requires Inv-loop μ-loop
 erase-count-requires c κs = search needs
@@ -50,13 +47,13 @@ loop-less c = search needs
 loop-again : tie.Need-loop-again Inv-loop μ-loop
 loop-again c =
     let turn = c .before .before in
-    let start = turn .before .before .before .before .before in
+    let start = turn .before .before .before .before in
     let l = turn .before .loop in
     let v = l .inv .1 in
     let geo = start .args .geo in
     let image = start .args .image .now in
     let wear = eraseCount geo image in
-    let is = blank-by geo image (l .b) _ _ (c .before .free-slots .ensures) (turn .before .before .d .ensures) in (
+    let is = sym (c .before .is-blank .ensures) in (
       omega arith,
       ⊎-elim
           (λ w. w .5 ∙ best-beaten _ _ _ v (w .0 .taken) (is ∙ w .1 .taken) (lt-ltb (wear (l .b)) (wear (l .best)) (omega arith)))
@@ -73,7 +70,7 @@ loop-again c =
 returns : tie.Need-returns Inv-loop μ-loop
 unfolding leastWornBlank
 returns c =
-    let e : c .before .loop .b ≡ c .before .before .before .before .before .args .geo .blocks = omega arith in
+    let e : c .before .loop .b ≡ c .before .before .before .before .args .geo .blocks = omega arith in
     rw e at (c .before .loop .inv .1)
 
 pub least-worn-blank-spec : {M : Type 1} → statement M
@@ -83,9 +80,8 @@ least-worn-blank-spec =
     Inv-loop
     μ-loop
     cast-blocks
-    d-requires
     loop-holds
-    free-slots-requires
+    is-blank-requires
     erase-count-requires
     erase-count-requires-2
     add-best
