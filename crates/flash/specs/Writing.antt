@@ -64,7 +64,8 @@ module _ (geo : Geometry) where
       let now = run geo image (before .steps) in
       copiedSlot now v t m before (slot geo now v m)
 
-  -- when a live slot of v has its turn, it is the one where its number is found: so on every well-formed image
+  -- when a live slot of v has its turn, it is the one where its number is found: so for the victim and the blank block of every reclaim of a
+  -- well-formed image (proofs/Written: victim-in-place)
   pub record FoundInPlace (image : Image) (v t : ℕ) : Type 0 where
     pub at-its-turn :
         (m n : ℕ) →
