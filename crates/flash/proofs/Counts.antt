@@ -13,16 +13,11 @@ use Rattle.geometry.specs.Places.{place, entryWord, contentWord}
 use Rattle.image.specs.declared.Found.{Found}
 use Rattle.image.specs.declared.Found.the-variants.{At, Nothing}
 use Rattle.image.specs.Words.{Image}
-use Rattle.image.specs.Slots.{validBit, find}
+use Rattle.image.specs.Slots.{validBit, isAt, find, isMapped}
 use Rattle.image.specs.Blocks.{full}
 use Rattle.flash.specs.Steps.{Step, run, wordsIn, erasuresIn}
 use Rattle.flash.specs.Placing.{entryAt, programsEntry, closesBlock, fillsSlot, placing, releasing}
 use Rattle.flash.proofs.Stores.{Counts, counts-words, counts-erasures, count-append, count-one, count-list}
-
--- a number was found
-abbrev pub isAt : Found → Bool
-isAt (At b i) = true
-isAt Nothing = false
 
 -- Any count of steps that takes `per` for a word programmed: what it says of a placing and of a release. They erase nothing.
 module _ {count : List Step → ℕ} {per per-erasure : ℕ} (counts : Counts count per per-erasure) (geo : Geometry) where
@@ -63,7 +58,7 @@ module _ (geo : Geometry) (image : Image) (n : ℕ) where
   pub placing-words :
       (ws : List ℕ) (b i : ℕ) →
       let after = run geo image (fillsSlot geo image (find geo image n) n ws b i) in
-      wordsIn (placing geo image n ws b i) ≡ 131 + 2 * one-if (isAt (find geo image n)) + 2 * one-if (full geo after b)
+      wordsIn (placing geo image n ws b i) ≡ 131 + 2 * one-if (isMapped geo image n) + 2 * one-if (full geo after b)
   placing-words ws b i = omega (arith, placing-count counts-words geo image n ws b i)
 
   pub placing-erasures : (ws : List ℕ) (b i : ℕ) → erasuresIn (placing geo image n ws b i) ≡ 0

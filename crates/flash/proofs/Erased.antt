@@ -4,11 +4,11 @@ use mathlib.Core.Path.{_≡_, refl, sym, ap, _∙_}
 use mathlib.Core.Logic.{_≢_, dite}
 use mathlib.Core.Bool.{true, not}
 use mathlib.Core.List.{List, [], _∷_, _++_}
-use Prim.Native.Nat.{ℕ, _+_, _-_, _*_, _%_, _^_, _<_, _≤_}
+use Prim.Native.Nat.{ℕ, _+_, _-_, _*_, _/_, _%_, _^_, _<_, _≤_}
 use native.Mathlib.Nat.{mul-le-mul-right}
 use native.Mathlib.Decide.{decLt, ℕ-discrete}
 use native.Mathlib.Omega.{arith}
-use lib.ListN.{length, getD, take, drop, replicate, length-append, length-drop, length-replicate, getD-replicate, List·getD-append}
+use lib.ListN.{length, getD, take, drop, replicate, length-append, length-take, length-drop, length-replicate, getD-replicate, List·getD-append}
 use lib.Seq.{getD-take, getD-drop, getD-append-add, length-take-le}
 use Rattle.ranges.proofs.Tests.{any-ext}
 use Rattle.bits.specs.Word.{ones, isSet, programmed}
@@ -17,7 +17,7 @@ use Rattle.bits.proofs.Programming.{ones-leave}
 use Rattle.geometry.specs.declared.Geometry.{Geometry}
 use Rattle.geometry.specs.Geometry.{Limits, d, k, blockLength, sectorWords}
 use Rattle.geometry.specs.Places.{place, eraseWord, leastWord, greatestWord, mapWord, entryWord, contentWord}
-use Rattle.geometry.proofs.Laws.{low-in-block, map-in-block, entry-in-block, map-covers, content-word-inside, content-word-after}
+use Rattle.geometry.proofs.Laws.{place-block, low-in-block, map-in-block, entry-in-block, map-covers, content-word-inside, content-word-after}
 use Rattle.image.specs.declared.Slot.the-variants.{Free, Live}
 use Rattle.image.specs.Words.{Image, Shaped, Words32, word, eraseCount, leastMapped, greatestMapped, freeMap, mapBit, entry, contents}
 use Rattle.image.specs.Slots.{slotOf, slot, isFree, isFaulty, mapOf}
@@ -33,7 +33,7 @@ use Rattle.flash.proofs.Stores.{Exact, lastAsked, counts-erasures, coun
 use Rattle.flash.proofs.Filling.{Ready}
 use Rattle.flash.proofs.Kept.{free-not-live}
 
-module _ (geo : Geometry) (image : Image) (shaped : Shaped geo image) (v : ℕ) (block : v < geo .blocks) where
+module _ (geo : Geometry) (image : Image) (v : ℕ) where
   abbrev before : List ℕ
   before = take (place geo v 0) image
 
@@ -43,10 +43,48 @@ module _ (geo : Geometry) (image : Image) (shaped : Shaped geo image) (v : ℕ) 
   abbrev behind : List ℕ
   behind = drop (place geo v (blockLength geo)) image
 
+  -- nothing is lost, whatever the image's length
+  pub erased-at-least : length image ≤ length (erasedBlock geo image v)
+  unfolding erasedBlock
+  erased-at-least =
+      simp (length-append, length-replicate, length-drop, length-take) (omega arith)
+
+  -- the words before the block, and those behind it
+  erased-before : (q : ℕ) → q < length image → q < place geo v 0 → word (erasedBlock geo image v) q ≡ word image q
+  unfolding erasedBlock
+  erased-before q inside l =
+      List·getD-append before (cleared-block ++ behind) 0 q (omega (arith, length-take (place geo v 0) image))
+      ∙ getD-take (place geo v 0) image q 0 l
+
+  erased-behind : (q : ℕ) → place geo v (blockLength geo) ≤ length image → place geo v (blockLength geo) ≤ q → word (erasedBlock geo image v) q ≡ word image q
+  unfolding erasedBlock
+  erased-behind q room l =
+      let rest : ℕ = q - place geo v (blockLength geo) in
+      let size = length-replicate (blockLength geo) ones in
+      let at : q ≡ length before + (length cleared-block + rest) = omega (arith, length-take (place geo v 0) image) in
+      let back : place geo v (blockLength geo) + rest ≡ q = omega arith in
+      ap (λ (x : ℕ). getD (before ++ (cleared-block ++ behind)) x 0) at
+      ∙ getD-append-add before (cleared-block ++ behind) (length cleared-block + rest) 0
+      ∙ getD-append-add cleared-block behind rest 0
+      ∙ getD-drop (place geo v (blockLength geo)) image rest 0
+      ∙ ap (word image) back
+
+  -- a word of another block stays
+  pub erased-elsewhere : (q : ℕ) → q < length image → q / blockLength geo ≢ v → word (erasedBlock geo image v) q ≡ word image q
+  erased-elsewhere q inside other = go (decLt q (place geo v 0)) (decLt q (place geo v (blockLength geo)))
+    where
+      go : Dec (q < place geo v 0) → Dec (q < place geo v (blockLength geo)) → word (erasedBlock geo image v) q ≡ word image q
+      go (yes l) m = erased-before q inside l
+      go (no l) (no m) = erased-behind q (omega arith) (omega arith)
+      go (no l) (yes m) =
+          let at : place geo v (q - place geo v 0) ≡ q = omega arith in
+          absurd (other (ap (_/ blockLength geo) (sym at) ∙ place-block geo v (q - place geo v 0) (omega arith)))
+
+module _ (geo : Geometry) (image : Image) (shaped : Shaped geo image) (v : ℕ) (block : v < geo .blocks) where
   room : place geo v (blockLength geo) ≤ length image
   room = omega (arith, block-room geo image shaped v block)
 
-  before-long : length before ≡ place geo v 0
+  before-long : length (before geo image v) ≡ place geo v 0
   before-long = length-take-le (place geo v 0) image (omega (arith, room))
 
   pub erased-long : length (erasedBlock geo image v) ≡ length image
@@ -58,47 +96,33 @@ module _ (geo : Geometry) (image : Image) (shaped : Shaped geo image) (v : ℕ) 
   pub erased-inside : (j : ℕ) → j < blockLength geo → word (erasedBlock geo image v) (place geo v j) ≡ ones
   unfolding erasedBlock
   erased-inside j l =
-      let at : place geo v j ≡ length before + j = omega (arith, before-long) in
-      ap (λ (q : ℕ). getD (before ++ (cleared-block ++ behind)) q 0) at
-      ∙ getD-append-add before (cleared-block ++ behind) j 0
-      ∙ List·getD-append cleared-block behind 0 j (omega (arith, length-replicate (blockLength geo) ones))
+      let first = before geo image v in
+      let middle = cleared-block geo image v in
+      let last = behind geo image v in
+      let at : place geo v j ≡ length first + j = omega (arith, before-long) in
+      ap (λ (q : ℕ). getD (first ++ (middle ++ last)) q 0) at
+      ∙ getD-append-add first (middle ++ last) j 0
+      ∙ List·getD-append middle last 0 j (omega (arith, length-replicate (blockLength geo) ones))
       ∙ getD-replicate (blockLength geo) j ones 0 l
-
-  -- before it, and behind it
-  erased-before : (q : ℕ) → q < place geo v 0 → word (erasedBlock geo image v) q ≡ word image q
-  unfolding erasedBlock
-  erased-before q l =
-      List·getD-append before (cleared-block ++ behind) 0 q (omega (arith, before-long)) ∙ getD-take (place geo v 0) image q 0 l
-
-  erased-behind : (q : ℕ) → place geo v (blockLength geo) ≤ q → word (erasedBlock geo image v) q ≡ word image q
-  unfolding erasedBlock
-  erased-behind q l =
-      let rest : ℕ = q - place geo v (blockLength geo) in
-      let size = length-replicate (blockLength geo) ones in
-      let at : q ≡ length before + (length cleared-block + rest) = omega (arith, before-long) in
-      let back : place geo v (blockLength geo) + rest ≡ q = omega arith in
-      ap (λ (x : ℕ). getD (before ++ (cleared-block ++ behind)) x 0) at
-      ∙ getD-append-add before (cleared-block ++ behind) (length cleared-block + rest) 0
-      ∙ getD-append-add cleared-block behind rest 0
-      ∙ getD-drop (place geo v (blockLength geo)) image rest 0
-      ∙ ap (word image) back
 
   pub erased-outside : (c j : ℕ) → c ≢ v → j < blockLength geo → word (erasedBlock geo image v) (place geo c j) ≡ word image (place geo c j)
   erased-outside c j n l = go (decLt c v)
     where
       go : Dec (c < v) → word (erasedBlock geo image v) (place geo c j) ≡ word image (place geo c j)
-      go (yes h) = erased-before (place geo c j) (omega (arith, mul-le-mul-right (blockLength geo) h))
+      go (yes h) =
+          let low : place geo c j < place geo v 0 = omega (arith, mul-le-mul-right (blockLength geo) h) in
+          erased-before geo image v (place geo c j) (omega (arith, room)) low
       go (no h) =
           let more : v < c = omega arith in
-          erased-behind (place geo c j) (omega (arith, mul-le-mul-right (blockLength geo) more))
+          erased-behind geo image v (place geo c j) room (omega (arith, mul-le-mul-right (blockLength geo) more))
 
   -- every word is one of the old ones, or ones
   pub erased-words : Words32 image → Words32 (erasedBlock geo image v)
   erased-words h = record { small = λ q. go q (decLt q (place geo v 0)) (decLt q (place geo v (blockLength geo))) }
     where
       go : (q : ℕ) → Dec (q < place geo v 0) → Dec (q < place geo v (blockLength geo)) → word (erasedBlock geo image v) q < 2 ^ 32
-      go q (yes l) m = rw (erased-before q l) (h .small q)
-      go q (no l) (no m) = rw (erased-behind q (omega arith)) (h .small q)
+      go q (yes l) m = rw (erased-before geo image v q (omega (arith, room)) l) (h .small q)
+      go q (no l) (no m) = rw (erased-behind geo image v q room (omega arith)) (h .small q)
       go q (no l) (yes m) =
           let at : q ≡ place geo v (q - place geo v 0) = omega arith in
           rw (at, erased-inside (q - place geo v 0) (omega arith)) (omega arith)

@@ -4,6 +4,7 @@ pub mod Placed
 pub mod Kept
 pub mod Counts
 pub mod Erased
+pub mod Clearing
 pub mod Moving
 pub mod Reclaimed
 pub mod Chosen

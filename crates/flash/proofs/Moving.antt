@@ -16,7 +16,7 @@ use Rattle.image.specs.declared.Slot.the-variants.{Free, Live, Dead, Faulty}
 use Rattle.image.specs.declared.Found.{Found}
 use Rattle.image.specs.declared.Found.the-variants.{At}
 use Rattle.image.specs.Words.{Image, Words32, eraseCount, contents}
-use Rattle.image.specs.Slots.{slot, isFree, isLive, find, mapOf}
+use Rattle.image.specs.Slots.{slot, isFree, isLive, find, mapOf, isAt}
 use Rattle.image.specs.Blocks.{full}
 use Rattle.image.proofs.Facts.{Sound, live-word}
 use Rattle.image.proofs.Finding.{live-found, map-at}
@@ -25,7 +25,7 @@ use Rattle.flash.specs.Steps.{Step, run, wordsIn, erasuresIn, leavesAske
 use Rattle.flash.specs.Placing.{placing}
 use Rattle.flash.specs.Writing.{Copied, copiedSlot, copying, FoundInPlace}
 use Rattle.flash.proofs.Stores.{run-append, asked-append, words-append, erasures-append}
-use Rattle.flash.proofs.Counts.{isAt, placing-erasures}
+use Rattle.flash.proofs.Counts.{placing-erasures}
 use Rattle.flash.proofs.Filling.{Ready, Target}
 use Rattle.flash.proofs.Placed.{Placed, Bounds, placing-exact, placing-placed, placing-bounds, placing-cost, placing-shaped, placing-words32}
 use Rattle.flash.proofs.Kept.{not-live, other-place, free-as-before, live-before, only-here, placed-sound, placed-here, placed-other}

@@ -23,7 +23,7 @@ use Rattle.image.specs.declared.Slot.the-variants.{Live, Dead}
 use Rattle.image.specs.declared.Found.{Found}
 use Rattle.image.specs.declared.Found.the-variants.{At}
 use Rattle.image.specs.Words.{Image, Shaped, Words32, word, eraseCount, leastMapped, greatestMapped, freeMap, mapBit, entry, contents}
-use Rattle.image.specs.Slots.{validBit, currentBit, slot, slotOf, isFree, isLiveFor, liveIn, find}
+use Rattle.image.specs.Slots.{validBit, currentBit, slot, slotOf, isFree, isLiveFor, liveIn, find, isAt}
 use Rattle.image.specs.Blocks.{full}
 use Rattle.image.proofs.Entries.{live-slot, dead-slot, retired-entry}
 use Rattle.image.proofs.Reading.{word-inside}
@@ -33,7 +33,7 @@ use Rattle.image.proofs.Places.{apart, contents-at, contents-are, contents-long
 use Rattle.flash.specs.Steps.{Step, Program, run, wordsIn}
 use Rattle.flash.specs.Placing.{leastLive, greatestLive, closesBlock, fillsSlot, placing}
 use Rattle.flash.proofs.Stores.{Exact, lastAsked, run-append, run-none, last-append, last-here, last-other, last-nothing, exact-none, exact-one, exact-then, run-words}
-use Rattle.flash.proofs.Counts.{isAt, placing-words, placing-erasures}
+use Rattle.flash.proofs.Counts.{placing-words, placing-erasures}
 use Rattle.flash.proofs.Filling.{Ready, Target, Elsewhere, fills-exact, filled-map, filled-entry, filled-content, filled-old, filled-elsewhere}
 
 -- What a placing leaves, by slots: n in slot i of block b, with the contents ws; its old slot dead; all else as it was. (Words 1 and 2

@@ -1,10 +1,12 @@
 -- A whole reclaim: the live slots of v copied to the blank block t, then v erased. Assumes nothing.
 use mathlib.Core.Path.{_≡_, refl, sym, ap, ap₂, _∙_}
 use mathlib.Core.Logic.{_≢_}
-use mathlib.Core.Bool.{true, false, _&&_}
+use mathlib.Core.Bool.{Bool, true, false, _&&_, _||_, true≢false}
 use mathlib.Core.List.{List, _++_}
 use Prim.Native.Nat.{ℕ, _+_, _*_, _<_, _≤_}
 use native.Mathlib.Omega.{arith}
+use lib.Dec.{eqb}
+use borrow.Author.Tests.{eqb-true}
 use Rattle.geometry.specs.declared.Geometry.{Geometry}
 use Rattle.geometry.specs.Geometry.{d}
 use Rattle.image.specs.declared.Slot.the-variants.{Free, Live}
@@ -12,11 +14,12 @@ use Rattle.image.specs.Words.{Image, eraseCount}
 use Rattle.image.specs.Slots.{slot, isFree, mapOf}
 use Rattle.image.specs.Blocks.{liveSlots}
 use Rattle.image.specs.WellFormed.{ceiling}
-use Rattle.flash.specs.Steps.{Step, run, wordsIn, erasuresIn, leavesAsked}
+use Rattle.flash.specs.Steps.{Step, run, wordsIn, erasuresIn, erasesBlock, leavesAsked}
 use Rattle.flash.specs.Writing.{Copied, copying, erasing}
 use Rattle.flash.proofs.Stores.{run-append, asked-append, words-append, erasures-append}
 use Rattle.flash.proofs.Filling.{Ready}
 use Rattle.flash.proofs.Moving.{Moved, moved}
+use Rattle.flash.proofs.Clearing.{erases-append, erases-none}
 use Rattle.flash.proofs.Erased.{erasing-asked, wiped-count, wiped-count-other, wiped-slot, wiped-free, wiped-map, wiped-ready}
 
 -- what the reclaim of v into t leaves, by these steps
@@ -25,6 +28,7 @@ pub record Reclaimed (geo : Geometry) (image : Image) (v t : ℕ) (steps : List 
   pub ready : Ready geo (run geo image steps)
   pub words : wordsIn steps ≡ 133 * liveSlots geo image v + 1
   pub erasures : erasuresIn steps ≡ 1
+  pub which : (b : ℕ) → erasesBlock steps b ≡ true → b ≡ v
   pub count : eraseCount geo (run geo image steps) v ≡ eraseCount geo image v + 1
   pub counts : (c : ℕ) → c < geo .blocks → c ≢ v → eraseCount geo (run geo image steps) c ≡ eraseCount geo image c
   pub emptied : (j : ℕ) → j < d geo → slot geo (run geo image steps) v j ≡ Free
@@ -72,6 +76,14 @@ module _
     unfolding wordsIn erasuresIn
     two-steps = (refl, refl)
 
+    one-block : (b : ℕ) → erasesBlock all b ≡ (erasesBlock (copied .steps) b || erasesBlock (erasing geo image v) b) → erasesBlock all b ≡ true → b ≡ v
+    unfolding erasesBlock
+    one-block b parts e = go (eqb v b) refl (rw (erases-none (copied .steps) (m .erasures) b) at (sym parts ∙ e))
+      where
+        go : (x : Bool) → eqb v b ≡ x → erasesBlock (erasing geo image v) b ≡ true → b ≡ v
+        go true same t = sym (eqb-true v b same)
+        go false other t = absurd (true≢false (sym t ∙ rw other))
+
     pub reclaimed : Reclaimed geo image v t all
     reclaimed =
         record {
@@ -81,6 +93,7 @@ module _
           ready = rw after (wiped-ready geo copy (m .ready) v count victim-in fits none-live);
           words = omega (arith, words-append (copied .steps) (erasing geo image v), two-steps .0, m .words, taken);
           erasures = omega (arith, erasures-append (copied .steps) (erasing geo image v), two-steps .1, m .erasures);
+          which = λ b e. one-block b (erases-append (copied .steps) (erasing geo image v) b) e;
           count = rw after (wiped-count geo copy (m .ready) v count victim-in fits);
           counts = λ c l n. rw after (wiped-count-other geo copy (m .ready) v count victim-in fits c n ∙ m .counts c l);
           emptied = λ j l. rw after (wiped-free geo copy (m .ready) v count victim-in fits j l);

@@ -1,7 +1,7 @@
 -- A whole write, by rules 1 and 2 and by rule 3: what it leaves, what it costs and what it pays. Assumes nothing.
 use mathlib.Core.Path.{_≡_, refl, sym, ap, ap₂, _∙_}
 use mathlib.Core.Logic.{_≢_}
-use mathlib.Core.Bool.{Bool, true, false, _&&_, true≢false}
+use mathlib.Core.Bool.{Bool, true, false, _&&_, _||_, true≢false}
 use mathlib.Core.List.{List, _++_}
 use mathlib.Core.Option.{some}
 use Prim.Native.Nat.{ℕ, _+_, _*_, _<_, _≤_}
@@ -17,15 +17,16 @@ use Rattle.geometry.specs.Geometry.{Limits, d, g, sectorWords}
 use Rattle.geometry.proofs.Laws.{d-positive, g-positive, g-at-most-d}
 use Rattle.image.specs.declared.Slot.{Slot}
 use Rattle.image.specs.Words.{Image, Words32, eraseCount}
-use Rattle.image.specs.Slots.{slot, isFree, find, mapOf}
+use Rattle.image.specs.Slots.{slot, isFree, find, mapOf, isAt}
 use Rattle.image.specs.Blocks.{blank, full, isOpen, freeSlots, liveSlots, deadSlots, lessWorn, leastWornBlank, preferred, victim}
 use Rattle.image.specs.WellFormed.{ceiling, R6}
 use Rattle.image.proofs.Capacity.{block-parts, blank-free, full-free, shut-full, blank-not-full, free-is-a-block, victim-dead}
-use Rattle.flash.specs.Steps.{Step, run, wordsIn, erasuresIn, leavesAsked}
+use Rattle.flash.specs.Steps.{Step, run, wordsIn, erasuresIn, erasesBlock, leavesAsked}
 use Rattle.flash.specs.Placing.{placing}
 use Rattle.flash.specs.Writing.{FoundInPlace, filling, mustReclaim, reclaiming, reclaimingFirst, writing}
 use Rattle.flash.proofs.Stores.{run-append, asked-append, words-append, erasures-append}
-use Rattle.flash.proofs.Counts.{isAt, placing-erasures}
+use Rattle.flash.proofs.Clearing.{erases-append, erases-none}
+use Rattle.flash.proofs.Counts.{placing-erasures}
 use Rattle.flash.proofs.Filling.{Ready, Target}
 use Rattle.flash.proofs.Placed.{Placed, placing-exact, placing-placed, placing-bounds, placing-cost, placing-shaped, placing-words32}
 use Rattle.flash.proofs.Kept.{free-as-before, placed-sound, placed-here, placed-other, placed-free}
@@ -40,8 +41,8 @@ freeIn geo image = sumBelow (geo .blocks) (freeSlots geo image)
 abbrev pub wornIn : Geometry → Image → ℕ
 wornIn geo image = sumBelow (geo .blocks) (eraseCount geo image)
 
--- what these steps of a write of n leave, cost and pay
-pub record Wrote (geo : Geometry) (image : Image) (n : ℕ) (ws : List ℕ) (steps : List Step) : Type 0 where
+-- what these steps of a write of n leave, cost and pay, where v is the block that they erase if they erase one
+pub record Wrote (geo : Geometry) (image : Image) (n : ℕ) (ws : List ℕ) (v : ℕ) (steps : List Step) : Type 0 where
   pub asked : leavesAsked geo image steps ≡ true
   pub ready : Ready geo (run geo image steps)
   pub still-blank : R6 geo (run geo image steps) ≡ true
@@ -51,7 +52,9 @@ pub record Wrote (geo : Geometry) (image : Image) (n : ℕ) (ws : List ℕ) (ste
   pub plain : erasuresIn steps ≡ 0 → wordsIn steps ≤ 135
   pub words : wordsIn steps + 133 * g geo ≤ 133 * d geo + 136
   pub worn : wornIn geo (run geo image steps) ≡ wornIn geo image + erasuresIn steps
-  pub paid : freeIn geo image + g geo * erasuresIn steps ≤ freeIn geo (run geo image steps) + 1
+  pub free : freeIn geo (run geo image steps) + 1 ≡ freeIn geo image + erasuresIn steps * deadSlots geo image v
+  pub gain : erasuresIn steps ≡ 1 → g geo ≤ deadSlots geo image v
+  pub which : (b : ℕ) → erasesBlock steps b ≡ true → (erasuresIn steps ≡ 1) × (b ≡ v)
   pub low : erasuresIn steps ≡ 1 → freeIn geo image ≡ d geo
 
 -- what is written: a number and a sector
@@ -108,8 +111,8 @@ module _ (geo : Geometry) (image : Image) (n : ℕ) (ws : List ℕ) (start : Rea
       free-as-before geo image after n ws b i start target p spare j (c .chosen .spare-in) l (λ x y. c .chosen .spare-other x)
       ∙ ap isFree (blank-slot geo image spare (c .chosen .spare-blank) j l)))
 
-  placed-wrote : Wrote geo image n ws (placing geo image n ws b i)
-  placed-wrote =
+  placed-wrote : (v : ℕ) → Wrote geo image n ws v (placing geo image n ws b i)
+  placed-wrote v =
       let none = placing-erasures geo image n ws b i in
       let cost = placing-cost geo image n ws b i start target in
       let few : wordsIn (placing geo image n ws b i) ≤ 135 =
@@ -125,12 +128,14 @@ module _ (geo : Geometry) (image : Image) (n : ℕ) (ws : List ℕ) (start : Rea
         plain = λ e. few;
         words = omega (arith, few, g-at-most-d geo within);
         worn = sum-ext (geo .blocks) (λ x l. p .counts x l) ∙ omega (arith, none);
-        paid = rw none (omega (arith, paid));
+        free = rw none (omega (arith, paid));
+        gain = λ e. absurd (omega (arith, none));
+        which = λ x e. absurd (true≢false (sym e ∙ erases-none (placing geo image n ws b i) none x));
         low = λ e. absurd (omega (arith, none));
       }
 
-  pub filling-wrote : Wrote geo image n ws (filling geo image n ws)
-  filling-wrote = rw (c .chosen .steps n ws) placed-wrote
+  pub filling-wrote : (v : ℕ) → Wrote geo image n ws v (filling geo image n ws)
+  filling-wrote v = rw (c .chosen .steps n ws) (placed-wrote v)
 
 -- ---- rule 3, with any full block of at least g dead slots whose count is below the ceiling
 
@@ -262,8 +267,8 @@ module _
       abbrev second : List Step
       second = filling geo base n ws
 
-      w : Wrote geo base n ws second
-      w = filling-wrote geo base n ws (r .ready) sector reclaim-choice
+      w : Wrote geo base n ws v second
+      w = filling-wrote geo base n ws (r .ready) sector reclaim-choice v
 
       placed : erasuresIn second ≡ 0
       placed = ap erasuresIn (reclaim-choice .chosen .steps n ws) ∙ placing-erasures geo base n ws (reclaim-choice .b) (reclaim-choice .i)
@@ -274,11 +279,19 @@ module _
       once : erasuresIn (first ++ second) ≡ 1
       once = omega (arith, erasures-append first second, r .erasures, placed)
 
+      -- the one block that these steps erase
+      one-block : (b : ℕ) → erasesBlock (first ++ second) b ≡ (erasesBlock first b || erasesBlock second b) → erasesBlock (first ++ second) b ≡ true → b ≡ v
+      one-block b parts e = r .which b (go (erasesBlock first b) (sym parts ∙ e))
+        where
+          go : (x : Bool) → (x || erasesBlock second b) ≡ true → x ≡ true
+          go true t = refl
+          go false t = sym (erases-none second placed b) ∙ t
+
       pub reclaiming-once : erasuresIn (reclaimingFirst geo image v n ws) ≡ 1
       unfolding reclaimingFirst
       reclaiming-once = once
 
-      pub reclaiming-wrote : Wrote geo image n ws (reclaimingFirst geo image v n ws)
+      pub reclaiming-wrote : Wrote geo image n ws v (reclaimingFirst geo image v n ws)
       unfolding reclaimingFirst
       reclaiming-wrote =
           record {
@@ -291,7 +304,9 @@ module _
             plain = λ e. absurd (omega (arith, once));
             words = omega (arith, words-append first second, r .words, w .plain placed, live-few);
             worn = rw (same-image, once) (w .worn ∙ omega (arith, worn-by-one, placed));
-            paid = rw (same-image, once) (omega (arith, gained, victim-is .dead, rw placed at (w .paid)));
+            free = rw (same-image, once) (omega (arith, gained, rw placed at (w .free)));
+            gain = λ e. victim-is .dead;
+            which = λ b e. (once, one-block b (erases-append first second b) e);
             low = λ e. free-is-a-block geo image (start .sound) limits none-open one-blank;
           }
 
@@ -341,13 +356,13 @@ pub writing-wrote :
     R6 geo image ≡ true →
     Sector geo n ws →
     (mustReclaim geo image ≡ true → eraseCount geo image (victim geo image) ≡ ceiling → ⊥) →
-    Wrote geo image n ws (writing geo image n ws)
+    Wrote geo image n ws (victim geo image) (writing geo image n ws)
 unfolding writing R6
 writing-wrote geo image n ws start formed sector below = go (mustReclaim geo image) refl
   where
-    go : (x : Bool) → mustReclaim geo image ≡ x → Wrote geo image n ws (writing geo image n ws)
+    go : (x : Bool) → mustReclaim geo image ≡ x → Wrote geo image n ws (victim geo image) (writing geo image n ws)
     go true must =
         rw must (reclaiming-wrote geo image start must (victim geo image) (victim-reclaimable geo image start must (below must)) n ws sector)
     go false no-need =
         let empty = any-at (geo .blocks) (blank geo image) formed in
-        rw no-need (filling-wrote geo image n ws start sector (choice geo image (start .shaped .limits) (empty .1) (empty .2) no-need))
+        rw no-need (filling-wrote geo image n ws start sector (choice geo image (start .shaped .limits) (empty .1) (empty .2) no-need) (victim geo image))

@@ -1,5 +1,5 @@
 -- The two kinds of step, what each does to an image, and how many of each a list of steps has.
-use mathlib.Core.Bool.{Bool, true, _&&_}
+use mathlib.Core.Bool.{Bool, true, false, _&&_, _||_}
 use mathlib.Core.List.{List, [], _∷_, _++_}
 use Prim.Native.Nat.{ℕ, suc}
 use lib.Dec.{eqb}
@@ -46,6 +46,12 @@ unfoldable pub erasuresIn : List Step → ℕ
 erasuresIn [] = 0
 erasuresIn (Program p w ∷ ss) = erasuresIn ss
 erasuresIn (Erase b ∷ ss) = suc (erasuresIn ss)
+
+-- some step erases block b
+unfoldable pub erasesBlock : List Step → ℕ → Bool
+erasesBlock [] b = false
+erasesBlock (Program p w ∷ ss) b = erasesBlock ss b
+erasesBlock (Erase c ∷ ss) b = eqb c b || erasesBlock ss b
 
 -- "In (a) to (g), in release and in the count after an erase, the word left is exactly the asked one.": each step that programs
 -- a word leaves the asked word at its place

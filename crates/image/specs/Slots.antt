@@ -84,6 +84,11 @@ isLiveWith f Faulty = false
 abbrev pub isLiveFor : ℕ → Slot → Bool
 isLiveFor n = isLiveWith (λ m. eqb m n)
 
+-- something was found
+abbrev pub isAt : Found → Bool
+isAt (At b i) = true
+isAt Nothing = false
+
 module _ (geo : Geometry) (image : Image) where
   -- n is live in some slot of block b
   abbrev pub liveIn : ℕ → ℕ → Bool
@@ -107,3 +112,7 @@ module _ (geo : Geometry) (image : Image) where
   -- "The map of an image sends n to the contents of the one slot, in any block, whose entry is live for n."
   abbrev pub mapOf : ℕ → Option (List ℕ)
   mapOf n = kept (find n)
+
+  -- n is mapped: some slot is live for it
+  abbrev pub isMapped : ℕ → Bool
+  isMapped n = isAt (find n)

@@ -2,7 +2,7 @@ ghost use mathlib.Core.Path.{_≡_};
 ghost use Prim.Native.Nat.{_<_};
 ghost use lib.ListN.{length};
 ghost use Rattle.geometry.specs.Geometry.{d, sectorWords};
-ghost use Rattle.image.specs.Words.{Shaped, contents};
+ghost use Rattle.image.specs.Words.{Shaped, Words32, contents};
 ghost use Rattle.image.specs.Slots.{slotOf, slot, find};
 use super::Found;
 use super::Slot;
@@ -70,4 +70,20 @@ pub fn copy_contents(image: &[u32], geo: Geometry, b: usize, i: usize, buffer: &
     for j in 0..128 {
         buffer[j] = image[at + j];
     }
+}
+
+// How many words a slice has.
+fn length(words: &[u32]) -> usize
+    ensures { λ r. ⌜ r ≡ length (now (words .entry)) ⌝ }
+{
+    words.len()
+}
+
+// How many words a slice has; and each is one of 32 bits, whatever is lent. So `Words32`, which statements about lists ask of an image or a
+// buffer, asks nothing of a caller. (The language tells what it knows of a slice where one is passed on: hence the call.)
+pub fn words_in(words: &[u32]) -> usize
+    ensures { λ r. ⌜ r ≡ length (now (words .entry)) ⌝ }
+    ensures { λ _. ⌜ Words32 (now (words .entry)) ⌝ }
+{
+    length(words)
 }

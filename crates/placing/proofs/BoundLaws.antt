@@ -14,7 +14,7 @@ use Rattle.ranges.proofs.Searches.{best-passes, best-some, first-before, first-
 use Rattle.geometry.specs.declared.Geometry.{Geometry}
 use Rattle.image.specs.declared.Slot.{Slot}
 use Rattle.image.specs.declared.Slot.the-variants.{Free, Live, Dead, Faulty}
-use Rattle.image.specs.Slots.{slot, find}
+use Rattle.image.specs.Slots.{slot, find, isAt}
 use Rattle.image.specs.Words.{Image, entry, contents}
 use Rattle.image.specs.Blocks.{full}
 use Rattle.image.proofs.Entries.{live-parts}
@@ -22,7 +22,7 @@ use Rattle.flash.specs.Steps.{run, wordsIn}
 use Rattle.flash.specs.Placing.{fillsSlot, placing}
 use Rattle.flash.specs.Writing.{Copied, copiedSlot, copying}
 use Rattle.flash.proofs.Stores.{words-append}
-use Rattle.flash.proofs.Counts.{isAt, placing-words}
+use Rattle.flash.proofs.Counts.{placing-words}
 
 -- a test that passes at n as well
 abbrev pub orAt : (ℕ → Bool) → ℕ → ℕ → Bool

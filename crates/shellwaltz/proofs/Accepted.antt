@@ -12,7 +12,7 @@ use Rattle.geometry.specs.Geometry.{sectorWords}
 use Rattle.image.specs.declared.Found.{Found}
 use Rattle.image.specs.declared.Found.the-variants.{At, Nothing}
 use Rattle.image.specs.Words.{Image, Shaped, Words32, eraseCount}
-use Rattle.image.specs.Slots.{find}
+use Rattle.image.specs.Slots.{find, isMapped}
 use Rattle.image.specs.Blocks.{victim}
 use Rattle.image.specs.WellFormed.{ceiling, R6, sound, wellFormed}
 use Rattle.image.proofs.Facts.{sound-facts, facts-sound}
@@ -22,7 +22,7 @@ use Rattle.flash.proofs.Filling.{Ready}
 use Rattle.flash.proofs.Written.{Wrote, writing-wrote}
 use Rattle.flash.proofs.Released.{Released, releasing-released}
 use Rattle.shellwaltz.specs.declared.Answer.the-variants.{Accepted}
-use Rattle.shellwaltz.specs.Refusals.{formatRows, checkRows, readRows, writeRows, releaseRows, formatAnswer, checkAnswer, readAnswer, writeAnswer, releaseAnswer, isNothing}
+use Rattle.shellwaltz.specs.Refusals.{formatRows, checkRows, readRows, writeRows, releaseRows, formatAnswer, checkAnswer, readAnswer, writeAnswer, releaseAnswer}
 use Rattle.shellwaltz.specs.Calls.{writeSteps, releaseSteps}
 use Rattle.shellwaltz.proofs.CallLaws.{shaped-left}
 use Rattle.shellwaltz.proofs.Rows.{NoneApplies, none-applies, if-accepted}
@@ -43,7 +43,7 @@ module _ (geo : Geometry) (image : Image) where
   ready-formed r t = rw (facts-sound geo image (r .sound), t)
 
   -- a number that is mapped is found
-  found-by : (n : ℕ) → isNothing (find geo image n) ≡ false → (b i : ℕ) × (find geo image n ≡ At b i)
+  found-by : (n : ℕ) → not (isMapped geo image n) ≡ false → (b i : ℕ) × (find geo image n ≡ At b i)
   found-by n t = go (find geo image n) refl
     where
       go : (f : Found) → find geo image n ≡ f → (b i : ℕ) × (find geo image n ≡ At b i)
@@ -55,13 +55,13 @@ module _ (geo : Geometry) (image : Image) where
   pub check-accepted : checkAnswer geo image ≡ Accepted → Shaped geo image × (wellFormed geo image ≡ true)
   unfolding checkAnswer
   check-accepted e =
-      let rows : NoneApplies (checkRows geo image) = none-applies 0 (checkRows geo image) e refl in
+      let rows : NoneApplies (checkRows geo image) = none-applies (checkRows geo image) e refl in
       (shaped-left geo image (rows .0), formed-by (rows .1 .0))
 
   pub format-accepted : formatAnswer geo image ≡ Accepted → Shaped geo image
   unfolding formatAnswer
   format-accepted e =
-      let rows : NoneApplies (formatRows geo image) = none-applies 0 (formatRows geo image) e refl in
+      let rows : NoneApplies (formatRows geo image) = none-applies (formatRows geo image) e refl in
       shaped-left geo image (rows .0)
 
   -- ---- an accepted read
@@ -69,7 +69,7 @@ module _ (geo : Geometry) (image : Image) where
   pub read-accepted : (n : ℕ) (buffer : List ℕ) → readAnswer geo image n buffer ≡ Accepted → (b i : ℕ) × (find geo image n ≡ At b i)
   unfolding readAnswer
   read-accepted n buffer e =
-      let rows : NoneApplies (readRows geo image n buffer) = none-applies 0 (readRows geo image n buffer) e refl in
+      let rows : NoneApplies (readRows geo image n buffer) = none-applies (readRows geo image n buffer) e refl in
       found-by n (rows .1 .1 .1 .1 .0)
 
   -- ---- an accepted write
@@ -77,19 +77,19 @@ module _ (geo : Geometry) (image : Image) where
   pub write-accepted : (n : ℕ) (buffer : List ℕ) → writeAnswer geo image n buffer ≡ Accepted → Shaped geo image × (wellFormed geo image ≡ true)
   unfolding writeAnswer
   write-accepted n buffer e =
-      let rows : NoneApplies (writeRows geo image n buffer) = none-applies 0 (writeRows geo image n buffer) e refl in
+      let rows : NoneApplies (writeRows geo image n buffer) = none-applies (writeRows geo image n buffer) e refl in
       (shaped-left geo image (rows .0), formed-by (rows .1 .1 .1 .0))
 
   module _ (n : ℕ) (buffer : List ℕ) (words : Words32 image) (handed : Words32 buffer) (accepted : writeAnswer geo image n buffer ≡ Accepted) where
     write-rows : NoneApplies (writeRows geo image n buffer)
     unfolding writeAnswer
-    write-rows = none-applies 0 (writeRows geo image n buffer) accepted refl
+    write-rows = none-applies (writeRows geo image n buffer) accepted refl
 
     pub write-steps : writeSteps geo image n buffer ≡ writing geo image n buffer
     unfolding writeSteps
     write-steps = if-accepted (writing geo image n buffer) [] accepted
 
-    pub write-wrote : Wrote geo image n buffer (writing geo image n buffer)
+    pub write-wrote : Wrote geo image n buffer (victim geo image) (writing geo image n buffer)
     write-wrote =
         let start = formed-ready (shaped-left geo image (write-rows .0)) words (formed-by (write-rows .1 .1 .1 .0)) in
         writing-wrote geo image n buffer (start .0) (start .1)
@@ -111,13 +111,13 @@ module _ (geo : Geometry) (image : Image) where
   pub release-accepted : (n : ℕ) → releaseAnswer geo image n ≡ Accepted → Shaped geo image × (wellFormed geo image ≡ true)
   unfolding releaseAnswer
   release-accepted n e =
-      let rows : NoneApplies (releaseRows geo image n) = none-applies 0 (releaseRows geo image n) e refl in
+      let rows : NoneApplies (releaseRows geo image n) = none-applies (releaseRows geo image n) e refl in
       (shaped-left geo image (rows .0), formed-by (rows .1 .1 .0))
 
   module _ (n : ℕ) (words : Words32 image) (accepted : releaseAnswer geo image n ≡ Accepted) where
     release-rows : NoneApplies (releaseRows geo image n)
     unfolding releaseAnswer
-    release-rows = none-applies 0 (releaseRows geo image n) accepted refl
+    release-rows = none-applies (releaseRows geo image n) accepted refl
 
     pub release-steps : releaseSteps geo image n ≡ releasing geo image n
     unfolding releaseSteps

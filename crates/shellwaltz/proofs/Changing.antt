@@ -13,7 +13,7 @@ use Rattle.shellwaltz.specs.declared.Answer.the-variants.{Accepted}
 use Rattle.shellwaltz.specs.declared.Outcome.{Outcome}
 use Rattle.shellwaltz.specs.Refusals.{Row, numberOf, firstThatApplies}
 use Rattle.shellwaltz.specs.Calls.{ifAccepted, outcome}
-use Rattle.shellwaltz.proofs.Rows.{ascends, FirstIs, first-is, first-above, if-accepted, if-refused}
+use Rattle.shellwaltz.proofs.Rows.{numbered, FirstIs, first-is, first-number, if-accepted, if-refused}
 
 -- a call whose steps are these where it is accepted, and none where it is refused
 module _ (geo : Geometry) (image : Image) (answer : Answer) (steps : List Step) where
@@ -44,9 +44,9 @@ module _ (geo : Geometry) (image : Image) (answer : Answer) (steps : List Step) 
 -- a call that gives the refusal of the first row that applies
 pub refused-by :
     (geo : Geometry) (image : Image) (rows : List Row) (steps : List Step) {a : Answer} {r : Outcome} →
-    ascends 0 rows ≡ true →
+    numbered rows ≡ true →
     FirstIs rows a →
     r ≡ outcome a [] →
     (r ≡ outcome (firstThatApplies rows) (ifAccepted (firstThatApplies rows) steps []))
     × (image ≡ run geo image (ifAccepted (firstThatApplies rows) steps []))
-refused-by geo image rows steps up f = left-alone geo image (firstThatApplies rows) steps (first-is f) (first-above 0 f up)
+refused-by geo image rows steps up f = left-alone geo image (firstThatApplies rows) steps (first-is f) (first-number f up)

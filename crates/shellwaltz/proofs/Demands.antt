@@ -1,53 +1,68 @@
 -- The demands hold: each statement of specs/Demands.antt, from the laws below it. Assumes nothing.
 use mathlib.Core.Path.{_≡_, refl, sym, ap, _∙_}
-use mathlib.Core.Bool.{Bool, true, false, cond}
-use mathlib.Core.List.{[]}
+use mathlib.Core.Bool.{Bool, true, false, cond, true≢false}
+use mathlib.Core.List.{List, []}
 use mathlib.Core.Option.{some, none}
-use Prim.Native.Nat.{ℕ, _+_, _-_, _*_, _<_}
-use native.Mathlib.Decide.{decLt}
+use Prim.Native.Nat.{ℕ, _+_, _-_, _*_, _/_}
 use native.Mathlib.Omega.{arith}
-use lib.ListN.{length}
-use lib.Seq.{getD-set-same, set-out}
-use Rattle.bits.specs.Word.{isSet, programmed}
-use Rattle.bits.proofs.Programming.{programmed-never-sets}
-use Rattle.geometry.specs.Geometry.{d}
+use Rattle.geometry.specs.declared.Geometry.{Geometry}
+use Rattle.geometry.specs.Geometry.{d, blockLength}
 use Rattle.image.specs.declared.Found.{Found}
 use Rattle.image.specs.declared.Found.the-variants.{At, Nothing}
-use Rattle.image.specs.Words.{Image, word}
+use Rattle.image.specs.Words.{Image}
 use Rattle.image.specs.Slots.{find, mapOf}
+use Rattle.image.specs.Blocks.{victim}
 use Rattle.image.proofs.Finding.{map-at, map-nothing}
-use Rattle.flash.specs.Steps.{run}
+use Rattle.flash.specs.Steps.{Step, run, erasuresIn, erasesBlock}
 use Rattle.flash.specs.Placing.{releasing}
-use Rattle.flash.specs.Writing.{writing}
+use Rattle.flash.specs.Writing.{mustReclaim, writing}
 use Rattle.flash.proofs.Stores.{run-none}
-use Rattle.shellwaltz.specs.declared.Answer.the-variants.{Accepted, BadGeometry, BadBuffer, BadNumber, Malformed, Unmapped}
-use Rattle.shellwaltz.specs.Refusals.{formatRows, checkRows, reportRows, readRows, writeRows, releaseRows, formatAnswer, checkAnswer, reportAnswer, readAnswer, writeAnswer, releaseAnswer, row1, row2, row3, row4}
-use Rattle.shellwaltz.specs.Calls.{fresh, formatted, totalsOf, noTotals, reported, copiedFrom, readBuffer, writeSteps, releaseSteps, outcome}
+use Rattle.flash.proofs.Counts.{releasing-erasures}
+use Rattle.flash.proofs.Clearing.{run-clears, erases-none}
+use Rattle.flash.proofs.Planned.{writing-fills, filling-erases-nothing}
+use Rattle.shellwaltz.specs.declared.Answer.{Answer}
+use Rattle.shellwaltz.specs.declared.Answer.the-variants.{Accepted, BadGeometry, BadBuffer, BadNumber, Malformed, Unmapped, WornOut}
+use Rattle.shellwaltz.specs.Refusals.{formatRows, checkRows, readRows, writeRows, releaseRows, formatAnswer, checkAnswer, readAnswer, writeAnswer, releaseAnswer, row1, row2, row3, row4}
+use Rattle.shellwaltz.specs.Calls.{ifAccepted, fresh, formatted, totalsOf, noTotals, reported, copiedFrom, readBuffer, writeSteps, releaseSteps, outcome}
 use Rattle.shellwaltz.specs.Runs.{ran, started}
-use Rattle.shellwaltz.specs.Demands.{Refusals, RefusedChangesNothing, ReadReturnsTheMap, WriteSetsOneSector, ReleaseRemovesOneSector, ProgrammingOnlyClears, StepsLeaveTheAskedWord, WriteBound, RunBound, RunBoundFromAny}
-use Rattle.shellwaltz.proofs.Rows.{in-order, if-accepted, if-refused}
+use Rattle.shellwaltz.specs.Demands.{Refusals, RefusedChangesNothing, ReadReturnsTheMap, WriteSetsOneSector, ReleaseRemovesOneSector, ProgrammingOnlyClears, OnlyTheVictimIsErased, StepsLeaveTheAskedWord, WriteBound, RunBound, RunBoundFromAny}
+use Rattle.shellwaltz.proofs.Rows.{given-exactly, accepted?, if-accepted, if-refused, if-either}
 use Rattle.shellwaltz.proofs.Accepted.{check-accepted, format-accepted, read-accepted, formed-ready, ready-formed, write-steps, write-wrote, release-steps, release-blank, release-released}
 use Rattle.shellwaltz.proofs.Fresh.{fresh-ready, fresh-blank, fresh-frees, fresh-worn}
 use Rattle.shellwaltz.proofs.Running.{runs}
 
 -- ---- Demand 1
 
+-- a report carries the answer of a check, accepted or not
+report-answer : (geo : Geometry) (image : Image) → reported geo image .answer ≡ checkAnswer geo image
+unfolding reported
+report-answer geo image = go (checkAnswer geo image)
+  where
+    go : (a : Answer) → _≡_ {A = Answer} (ifAccepted a (totalsOf geo image) (noTotals geo image a) .answer) a
+    go Accepted = refl
+    go BadGeometry = refl
+    go BadBuffer = refl
+    go BadNumber = refl
+    go Malformed = refl
+    go Unmapped = refl
+    go WornOut = refl
+
 pub refusals : Refusals
-unfolding formatAnswer checkAnswer reportAnswer readAnswer writeAnswer releaseAnswer
+unfolding formatAnswer checkAnswer readAnswer writeAnswer releaseAnswer
 refusals geo image n buffer = (
-  in-order 0 (formatRows geo image) (formatAnswer geo image) refl refl,
-  in-order 0 (checkRows geo image) (checkAnswer geo image) refl refl,
-  in-order 0 (reportRows geo image) (reportAnswer geo image) refl refl,
-  in-order 0 (readRows geo image n buffer) (readAnswer geo image n buffer) refl refl,
-  in-order 0 (writeRows geo image n buffer) (writeAnswer geo image n buffer) refl refl,
-  in-order 0 (releaseRows geo image n) (releaseAnswer geo image n) refl refl,
+  given-exactly (formatRows geo image) refl,
+  given-exactly (checkRows geo image) refl,
+  report-answer geo image,
+  given-exactly (readRows geo image n buffer) refl,
+  given-exactly (writeRows geo image n buffer) refl,
+  given-exactly (releaseRows geo image n) refl,
 )
 
 pub refused-changes-nothing : RefusedChangesNothing
 unfolding formatted reported readBuffer writeSteps releaseSteps
 refused-changes-nothing geo image n buffer = (
   λ no. if-refused (formatAnswer geo image) (fresh geo) image no,
-  λ no. if-refused (reportAnswer geo image) (totalsOf geo image) (noTotals geo image (reportAnswer geo image)) no,
+  λ no. if-refused (checkAnswer geo image) (totalsOf geo image) (noTotals geo image (checkAnswer geo image)) no,
   λ no. if-refused (readAnswer geo image n buffer) (copiedFrom geo image (find geo image n) buffer) buffer no,
   λ no.
       let none-done = if-refused (writeAnswer geo image n buffer) (writing geo image n buffer) [] no in
@@ -91,14 +106,32 @@ read-returns-the-map geo image n buffer = (
     unmapped Nothing e answer = map-nothing geo image n e
 
 pub programming-only-clears : ProgrammingOnlyClears
-programming-only-clears image p asked j t = go (decLt p (length image))
+unfolding releaseSteps erasuresIn
+programming-only-clears geo image n buffer p j inside = (
+  λ t.
+      run-clears geo image (releaseSteps geo image n) p j inside
+      (erases-none (releaseSteps geo image n) (if-either erasuresIn (releaseAnswer geo image n) (releasing-erasures geo image n) refl) (p / blockLength geo)) t,
+  λ kept t. run-clears geo image (writeSteps geo image n buffer) p j inside kept t,
+)
+
+pub only-the-victim-is-erased : OnlyTheVictimIsErased
+unfolding writeSteps erasesBlock
+only-the-victim-is-erased geo image n b buffer words handed erased = go (accepted? (writeAnswer geo image n buffer))
   where
-    go : Dec (p < length image) → isSet (word image p) j ≡ true
-    go (yes l) =
-        programmed-never-sets (word image p) asked j
-        (sym (ap (λ (w : ℕ). isSet w j) (getD-set-same image p (programmed (word image p) asked) 0 l)) ∙ t)
-    go (no l) =
-        sym (ap (λ (x : Image). isSet (word x p) j) (set-out image p (programmed (word image p) asked) (omega arith))) ∙ t
+    go :
+        Dec (writeAnswer geo image n buffer ≡ Accepted) →
+        (mustReclaim geo image ≡ true) × (b ≡ victim geo image) × (erasuresIn (writeSteps geo image n buffer) ≡ 1)
+    go (no refused) =
+        absurd (true≢false (sym erased ∙ ap (λ (ss : List Step). erasesBlock ss b) (if-refused (writeAnswer geo image n buffer) (writing geo image n buffer) [] refused)))
+    go (yes accepted) =
+        let same = write-steps geo image n buffer words handed accepted in
+        let is = write-wrote geo image n buffer words handed accepted .which b (rw same at erased) in
+        (reclaims (mustReclaim geo image) refl (is .0), is .1, ap erasuresIn same ∙ is .0)
+      where
+        reclaims : (x : Bool) → mustReclaim geo image ≡ x → erasuresIn (writing geo image n buffer) ≡ 1 → mustReclaim geo image ≡ true
+        reclaims true e once = e
+        reclaims false e once =
+            absurd (omega (arith, sym once ∙ ap erasuresIn (writing-fills geo image e n buffer) ∙ filling-erases-nothing geo image n buffer))
 
 pub write-sets-one-sector : WriteSetsOneSector
 write-sets-one-sector geo image n buffer words handed accepted =

@@ -19,9 +19,10 @@ use Rattle.image.proofs.Finding.{live-found, map-at, map-nothing}
 use Rattle.flash.specs.Steps.{run}
 use Rattle.flash.specs.Placing.{releasing}
 use Rattle.flash.specs.Writing.{writing}
-use Rattle.shellwaltz.specs.Refusals.{checkAnswer, reportAnswer, readAnswer}
+use Rattle.flash.proofs.Counts.{placing-words}
+use Rattle.shellwaltz.specs.Refusals.{checkAnswer, readAnswer}
 use Rattle.shellwaltz.specs.Calls.{fresh, formatted, totalsOf, noTotals, reported, readBuffer}
-use Rattle.shellwaltz.specs.Properties.{TheOneSlot, FormatMakesAFreshImage, ReportAddsUp, OthersReadAsBefore, WearAndFreeSlots, Determined}
+use Rattle.shellwaltz.specs.Properties.{TheOneSlot, FormatMakesAFreshImage, ReportAddsUp, OthersReadAsBefore, PlacingCosts, WearAndFreeSlots}
 use Rattle.shellwaltz.proofs.Accepted.{check-accepted, format-accepted, formed-ready, ready-formed, write-accepted, write-steps, write-wrote, release-accepted, release-steps, release-blank, release-released}
 use Rattle.shellwaltz.proofs.Fresh.{fresh-formed, fresh-map, fresh-frees, fresh-worn}
 use Rattle.shellwaltz.proofs.Rows.{if-accepted}
@@ -40,11 +41,11 @@ format-makes-a-fresh-image geo image accepted =
     (fresh-formed geo within, fresh-map geo within, fresh-frees geo within, fresh-worn geo within)
 
 pub report-adds-up : ReportAddsUp
-unfolding reported checkAnswer reportAnswer
+unfolding reported
 report-adds-up geo image words accepted =
     let checked = check-accepted geo image accepted in
     let ready = formed-ready geo image (checked .0) words (checked .1) .0 in
-    rw (if-accepted (totalsOf geo image) (noTotals geo image (reportAnswer geo image)) accepted)
+    rw (if-accepted (totalsOf geo image) (noTotals geo image (checkAnswer geo image)) accepted)
     (image-parts geo image (ready .sound), live-at-most geo image (ready .sound) words)
 
 -- two images of one length, both well formed, that map m alike read m alike
@@ -103,22 +104,15 @@ others-read-as-before geo image n m buffer handed words given x = (
       (ready-formed geo (run geo image (releasing geo image n)) (r .ready) (r .still-blank ∙ release-blank geo image n words accepted)) (r .other m x)),
 )
 
+pub placing-costs : PlacingCosts
+placing-costs geo image n ws b i = placing-words geo image n ws b i
+
 pub wear-and-free-slots : WearAndFreeSlots
 wear-and-free-slots geo image n buffer words given = (
   λ accepted.
       let w = write-wrote geo image n buffer words given accepted in
-      rw (write-steps geo image n buffer words given accepted) (w .worn, w .paid, w .low),
+      rw (write-steps geo image n buffer words given accepted) (w .worn, w .free, λ once. (w .gain once, w .low once)),
   λ accepted.
       let r = release-released geo image n words accepted in
       rw (release-steps geo image n words accepted) (r .words, r .erasures, r .free, r .worn),
-)
-
-pub determined : Determined
-determined geo image n buffer = (
-  λ r s x y p q p' q'. (p ∙ sym p', q ∙ sym q'),
-  λ r s p p'. p ∙ sym p',
-  λ r s p p'. p ∙ sym p',
-  λ r s x y p q p' q'. (p ∙ sym p', q ∙ sym q'),
-  λ r s x y p q p' q'. (p ∙ sym p', q ∙ sym q'),
-  λ r s x y p q p' q'. (p ∙ sym p', q ∙ sym q'),
 )

@@ -1,94 +1,89 @@
 -- The first row that applies: where it is given, and what an accepted call says of every row. Assumes nothing.
 use mathlib.Core.Path.{_≡_, refl, sym, ap, _∙_}
-use mathlib.Core.Logic.{_≢_, _⊎_, inl, inr, _↔_}
-use mathlib.Core.Bool.{Bool, true, false, cond, _&&_, true≢false}
+use mathlib.Core.Logic.{_≢_, _↔_}
+use mathlib.Core.Bool.{Bool, true, false, not, cond, _&&_, true≢false}
 use mathlib.Core.List.{List, [], _∷_}
-use Prim.Native.Nat.{ℕ, _<_}
+use Prim.Native.Nat.{ℕ, _<_, _≤_}
 use native.Mathlib.Omega.{arith}
-use lib.Dec.{ltb}
-use borrow.Author.Tests.{ltb-true}
+use lib.Dec.{eqb, ltb}
+use borrow.Author.Tests.{eq-eqb, eqb-true, ltb-true}
 use Rattle.ranges.proofs.Tests.{both-pass}
 use Rattle.shellwaltz.specs.declared.Answer.{Answer}
 use Rattle.shellwaltz.specs.declared.Answer.the-variants.{Accepted, BadGeometry, BadBuffer, BadNumber, Malformed, Unmapped, WornOut}
 use Rattle.shellwaltz.specs.Refusals.{numberOf, Row, firstThatApplies}
 use Rattle.shellwaltz.specs.Calls.{ifAccepted}
-use Rattle.shellwaltz.specs.Demands.{ExactlyInOrder}
+use Rattle.shellwaltz.specs.Demands.{isFirst, noneApplies, GivenExactly}
 
--- the rows' numbers ascend from above k
-abbrev pub ascends : ℕ → List Row → Bool
-ascends k [] = true
-ascends k (r ∷ rs) = ltb k (numberOf (r .refusal)) && ascends (numberOf (r .refusal)) rs
+-- each row's refusal has the row's number, which is not 0
+abbrev pub numbered : List Row → Bool
+numbered [] = true
+numbered (r ∷ rs) = eqb (numberOf (r .refusal)) (r .number) && (ltb 0 (r .number) && numbered rs)
 
--- so what is given is a success, or a refusal with a number above k
-number-above : (k : ℕ) (rows : List Row) → ascends k rows ≡ true → (numberOf (firstThatApplies rows) ≡ 0) ⊎ (k < numberOf (firstThatApplies rows))
-number-above k [] t = inl refl
-number-above k (r ∷ rs) t = go (r .applies) (number-above (numberOf (r .refusal)) rs (both .1))
+numbered-parts : (r : Row) (rs : List Row) → numbered (r ∷ rs) ≡ true → (numberOf (r .refusal) ≡ r .number) × (0 < r .number) × (numbered rs ≡ true)
+numbered-parts r rs t =
+    let first = both-pass (eqb (numberOf (r .refusal)) (r .number)) (ltb 0 (r .number) && numbered rs) t in
+    let second = both-pass (ltb 0 (r .number)) (numbered rs) (first .1) in
+    (eqb-true (numberOf (r .refusal)) (r .number) (first .0), ltb-true 0 (r .number) (second .0), second .1)
+
+-- the number of what is given is that of the first row that applies
+number-first : (rows : List Row) → numbered rows ≡ true → (k : ℕ) → 1 ≤ k → (numberOf (firstThatApplies rows) ≡ k) ↔ (isFirst k rows ≡ true)
+number-first [] t k l = (λ e. absurd (omega arith), λ e. absurd (true≢false (sym e)))
+number-first (r ∷ rs) t k l = go (r .applies) (number-first rs (numbered-parts r rs t .2) k l)
   where
-    both : (ltb k (numberOf (r .refusal)) ≡ true) × (ascends (numberOf (r .refusal)) rs ≡ true)
-    both = both-pass (ltb k (numberOf (r .refusal))) (ascends (numberOf (r .refusal)) rs) t
-
-    above : k < numberOf (r .refusal)
-    above = ltb-true k (numberOf (r .refusal)) (both .0)
-
     go :
-        (b : Bool) →
-        (numberOf (firstThatApplies rs) ≡ 0) ⊎ (numberOf (r .refusal) < numberOf (firstThatApplies rs)) →
-        (numberOf (cond b (r .refusal) (firstThatApplies rs)) ≡ 0) ⊎ (k < numberOf (cond b (r .refusal) (firstThatApplies rs)))
-    go true ih = inr above
-    go false (inl e) = inl e
-    go false (inr l) = inr (omega (arith, above))
+        (x : Bool) →
+        (numberOf (firstThatApplies rs) ≡ k) ↔ (isFirst k rs ≡ true) →
+        (numberOf (cond x (r .refusal) (firstThatApplies rs)) ≡ k) ↔ (cond x (eqb (r .number) k) (isFirst k rs) ≡ true)
+    go true ih =
+        let same = numbered-parts r rs t .0 in
+        (λ e. eq-eqb (r .number) k (sym same ∙ e), λ e. same ∙ eqb-true (r .number) k e)
+    go false ih = ih
 
--- "given exactly when its row says, in the table's order"
-pub in-order : (k : ℕ) (rows : List Row) (answer : Answer) → answer ≡ firstThatApplies rows → ascends k rows ≡ true → ExactlyInOrder answer rows
-in-order k [] answer e t = e
-in-order k (r ∷ rs) answer e t = go (r .applies) refl (λ q. in-order (numberOf (r .refusal)) rs answer q (both .1))
+-- and 0 where none does
+number-none : (rows : List Row) → numbered rows ≡ true → (numberOf (firstThatApplies rows) ≡ 0) ↔ (noneApplies rows ≡ true)
+number-none [] t = (λ e. refl, λ e. refl)
+number-none (r ∷ rs) t = go (r .applies) (number-none rs (numbered-parts r rs t .2))
   where
-    both : (ltb k (numberOf (r .refusal)) ≡ true) × (ascends (numberOf (r .refusal)) rs ≡ true)
-    both = both-pass (ltb k (numberOf (r .refusal))) (ascends (numberOf (r .refusal)) rs) t
-
-    above : k < numberOf (r .refusal)
-    above = ltb-true k (numberOf (r .refusal)) (both .0)
-
-    other : answer ≡ firstThatApplies rs → answer ≢ r .refusal
-    other q s =
-        clash (number-above (numberOf (r .refusal)) rs (both .1)) (ap numberOf (sym q ∙ s))
-      where
-        clash :
-            (numberOf (firstThatApplies rs) ≡ 0) ⊎ (numberOf (r .refusal) < numberOf (firstThatApplies rs)) →
-            numberOf (firstThatApplies rs) ≡ numberOf (r .refusal) →
-            ⊥
-        clash (inl z) s = omega (arith, above)
-        clash (inr z) s = omega arith
-
     go :
-        (b : Bool) →
-        r .applies ≡ b →
-        (answer ≡ firstThatApplies rs → ExactlyInOrder answer rs) →
-        ((answer ≡ r .refusal) ↔ (r .applies ≡ true)) × (r .applies ≡ false → ExactlyInOrder answer rs)
-    go true p ih =
-        let given : answer ≡ r .refusal = e ∙ rw p in
-        ((λ s. p, λ s. given), λ q. absurd (true≢false (sym p ∙ q)))
-    go false p ih =
-        let later : answer ≡ firstThatApplies rs = e ∙ rw p in
-        ((λ s. absurd (other later s), λ s. absurd (true≢false (sym s ∙ p))), λ q. ih later)
+        (x : Bool) →
+        (numberOf (firstThatApplies rs) ≡ 0) ↔ (noneApplies rs ≡ true) →
+        (numberOf (cond x (r .refusal) (firstThatApplies rs)) ≡ 0) ↔ ((not x && noneApplies rs) ≡ true)
+    go true ih =
+        let parts = numbered-parts r rs t in
+        (λ e. absurd (omega (arith, parts .0, parts .1)), λ e. absurd (true≢false (sym e)))
+    go false ih = ih
+
+-- acceptance alone has the number 0
+accepted-number : (a : Answer) → (a ≡ Accepted) ↔ (numberOf a ≡ 0)
+accepted-number a = (λ e. ap numberOf e, go a)
+  where
+    go : (x : Answer) → numberOf x ≡ 0 → x ≡ Accepted
+    go Accepted e = refl
+    go BadGeometry e = absurd (omega arith)
+    go BadBuffer e = absurd (omega arith)
+    go BadNumber e = absurd (omega arith)
+    go Malformed e = absurd (omega arith)
+    go Unmapped e = absurd (omega arith)
+    go WornOut e = absurd (omega arith)
+
+pub given-exactly : (rows : List Row) → numbered rows ≡ true → GivenExactly (firstThatApplies rows) rows
+given-exactly rows t = (number-first rows t, number-none rows t, accepted-number (firstThatApplies rows))
 
 -- where a call is accepted, no row applies
 abbrev pub NoneApplies : List Row → Type 0
 NoneApplies [] = Unit {0}
 NoneApplies (r ∷ rs) = (r .applies ≡ false) × NoneApplies rs
 
-pub none-applies : (k : ℕ) (rows : List Row) → firstThatApplies rows ≡ Accepted → ascends k rows ≡ true → NoneApplies rows
-none-applies k [] e t = tt
-none-applies k (r ∷ rs) e t = go (r .applies) refl (λ q. none-applies (numberOf (r .refusal)) rs q (both .1))
+pub none-applies : (rows : List Row) → firstThatApplies rows ≡ Accepted → numbered rows ≡ true → NoneApplies rows
+none-applies [] e t = tt
+none-applies (r ∷ rs) e t = go (r .applies) refl (λ q. none-applies rs q (numbered-parts r rs t .2))
   where
-    both : (ltb k (numberOf (r .refusal)) ≡ true) × (ascends (numberOf (r .refusal)) rs ≡ true)
-    both = both-pass (ltb k (numberOf (r .refusal))) (ascends (numberOf (r .refusal)) rs) t
-
     go : (b : Bool) → r .applies ≡ b → (firstThatApplies rs ≡ Accepted → NoneApplies rs) → NoneApplies (r ∷ rs)
     go true p ih =
         absurd
         (let given : r .refusal ≡ Accepted = rw p at e in
-        omega (arith, ap numberOf given, ltb-true k (numberOf (r .refusal)) (both .0)))
+        let parts = numbered-parts r rs t in
+        omega (arith, ap numberOf given, parts .0, parts .1))
     go false p ih = (p, ih (rw p at e))
 
 -- the first row that applies: this one, or one after it
@@ -100,13 +95,20 @@ pub first-is : {rows : List Row} {a : Answer} → FirstIs rows a → firstThatAp
 first-is (here t) = rw t
 first-is (later t f) = rw t (first-is f)
 
--- where the rows' numbers ascend from above k, its number is above k
-pub first-above : (k : ℕ) {rows : List Row} {a : Answer} → FirstIs rows a → ascends k rows ≡ true → k < numberOf a
-first-above k (here {r} {rs} h) t =
-    ltb-true k (numberOf (r .refusal)) (both-pass (ltb k (numberOf (r .refusal))) (ascends (numberOf (r .refusal)) rs) t .0)
-first-above k (later {r} {rs} h f) t =
-    let both = both-pass (ltb k (numberOf (r .refusal))) (ascends (numberOf (r .refusal)) rs) t in
-    omega (arith, ltb-true k (numberOf (r .refusal)) (both .0), first-above (numberOf (r .refusal)) f (both .1))
+-- its number is not 0
+pub first-number : {rows : List Row} {a : Answer} → FirstIs rows a → numbered rows ≡ true → 0 < numberOf a
+first-number (here {r} {rs} h) t = let parts = numbered-parts r rs t in omega (arith, parts .0, parts .1)
+first-number (later {r} {rs} h f) t = first-number f (numbered-parts r rs t .2)
+
+-- a call is accepted or not
+pub accepted? : (a : Answer) → Dec (a ≡ Accepted)
+accepted? Accepted = yes refl
+accepted? BadGeometry = no (λ e. let z : _≡_ {A = ℕ} 0 1 = cc in omega arith)
+accepted? BadBuffer = no (λ e. let z : _≡_ {A = ℕ} 0 1 = cc in omega arith)
+accepted? BadNumber = no (λ e. let z : _≡_ {A = ℕ} 0 1 = cc in omega arith)
+accepted? Malformed = no (λ e. let z : _≡_ {A = ℕ} 0 1 = cc in omega arith)
+accepted? Unmapped = no (λ e. let z : _≡_ {A = ℕ} 0 1 = cc in omega arith)
+accepted? WornOut = no (λ e. let z : _≡_ {A = ℕ} 0 1 = cc in omega arith)
 
 -- what a call gives
 pub if-accepted {ℓ} : {A : Type ℓ} {a : Answer} (x y : A) → a ≡ Accepted → ifAccepted a x y ≡ x
@@ -120,3 +122,10 @@ if-refused BadNumber x y n = refl
 if-refused Malformed x y n = refl
 if-refused Unmapped x y n = refl
 if-refused WornOut x y n = refl
+
+pub if-either : {A B : Type 0} (f : A → B) (a : Answer) {x y : A} {z : B} → f x ≡ z → f y ≡ z → f (ifAccepted a x y) ≡ z
+if-either f a {x} {y} {z} p q = go (accepted? a)
+  where
+    go : Dec (a ≡ Accepted) → f (ifAccepted a x y) ≡ z
+    go (yes e) = ap f (if-accepted x y e) ∙ p
+    go (no n) = ap f (if-refused a x y n) ∙ q

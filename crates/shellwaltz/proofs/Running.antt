@@ -13,13 +13,12 @@ use Rattle.flash.specs.Placing.{releasing}
 use Rattle.flash.specs.Writing.{writing}
 use Rattle.flash.proofs.Filling.{Ready}
 use Rattle.flash.proofs.Stores.{run-none}
-use Rattle.flash.proofs.Written.{freeIn, wornIn}
-use Rattle.shellwaltz.specs.declared.Answer.{Answer}
-use Rattle.shellwaltz.specs.declared.Answer.the-variants.{Accepted, BadGeometry, BadBuffer, BadNumber, Malformed, Unmapped, WornOut}
+use Rattle.flash.proofs.Written.{freeIn, wornIn, Wrote}
+use Rattle.shellwaltz.specs.declared.Answer.the-variants.{Accepted}
 use Rattle.shellwaltz.specs.Refusals.{writeAnswer, releaseAnswer}
 use Rattle.shellwaltz.specs.Calls.{writeSteps, releaseSteps}
 use Rattle.shellwaltz.specs.Runs.{Call, Check, Report, Read, Write, Release, State, called, ran, OfWords}
-use Rattle.shellwaltz.proofs.Rows.{if-accepted, if-refused}
+use Rattle.shellwaltz.proofs.Rows.{accepted?, if-accepted, if-refused}
 use Rattle.shellwaltz.proofs.Accepted.{write-steps, write-wrote, release-steps, release-released}
 
 -- an image that is well formed, of the right shape and of 32-bit words
@@ -73,14 +72,17 @@ module _ (geo : Geometry) where
         paid = rw i (record { balance = omega arith; one = omega arith; erases = omega arith; low = omega arith });
       }
 
-  accepted? : (a : Answer) → Dec (a ≡ Accepted)
-  accepted? Accepted = yes refl
-  accepted? BadGeometry = no (λ e. let z : _≡_ {A = ℕ} 0 1 = cc in omega arith)
-  accepted? BadBuffer = no (λ e. let z : _≡_ {A = ℕ} 0 1 = cc in omega arith)
-  accepted? BadNumber = no (λ e. let z : _≡_ {A = ℕ} 0 1 = cc in omega arith)
-  accepted? Malformed = no (λ e. let z : _≡_ {A = ℕ} 0 1 = cc in omega arith)
-  accepted? Unmapped = no (λ e. let z : _≡_ {A = ℕ} 0 1 = cc in omega arith)
-  accepted? WornOut = no (λ e. let z : _≡_ {A = ℕ} 0 1 = cc in omega arith)
+  -- of an accepted write: the equation of its free slots, with at least g for an erasure
+  write-balance :
+      {image : Image} {n v : ℕ} {ws : List ℕ} {steps : List Step} →
+      Wrote geo image n ws v steps →
+      freeIn geo image + g geo * erasuresIn steps ≤ freeIn geo (run geo image steps) + 1
+  write-balance {image} {v = v} {steps = steps} w = go (erasuresIn steps) refl (w .erases)
+    where
+      go : (e : ℕ) → erasuresIn steps ≡ e → e ≤ 1 → freeIn geo image + g geo * erasuresIn steps ≤ freeIn geo (run geo image steps) + 1
+      go zero q l = rw q (omega (arith, rw q at (w .free)))
+      go (suc zero) q l = rw q (omega (arith, rw q at (w .free), w .gain q))
+      go (suc (suc e)) q l = absurd (omega arith)
 
   write-step : (s : State) (n : ℕ) (buffer : List ℕ) → Good geo (s .image) → Words32 buffer → Step-of s (called geo s (Write n buffer))
   unfolding called writeSteps erasuresIn
@@ -97,7 +99,7 @@ module _ (geo : Geometry) where
             writes = ap (s .writes +_) (if-accepted 1 0 a);
             erasures = ap (λ (ss : List Step). s .erasures + erasuresIn ss) same;
             worn = rw same (r .worn);
-            paid = rw same (record { balance = r .paid; one = omega arith; erases = r .erases; low = r .low });
+            paid = rw same (record { balance = write-balance r; one = omega arith; erases = r .erases; low = r .low });
           }
       go (no a) =
           let none = if-refused (writeAnswer geo (s .image) n buffer) (writing geo (s .image) n buffer) [] a in

@@ -1,4 +1,4 @@
--- "What each call does": what it answers, reports and leaves, for every input, refused or not.
+-- What each call answers, reports and leaves, for every input, refused or not (FORMAT.md, from "Format, check, report, read" to "Release").
 use mathlib.Core.List.{List, []}
 use Prim.Native.Nat.{ℕ, zero, suc}
 use lib.ListN.{set, replicate}
@@ -19,7 +19,7 @@ use Rattle.shellwaltz.specs.declared.Answer.{Answer}
 use Rattle.shellwaltz.specs.declared.Answer.the-variants.{Accepted, BadGeometry, BadBuffer, BadNumber, Malformed, Unmapped, WornOut}
 use Rattle.shellwaltz.specs.declared.Outcome.{Outcome}
 use Rattle.shellwaltz.specs.declared.Totals.{Totals}
-use Rattle.shellwaltz.specs.Refusals.{formatAnswer, reportAnswer, readAnswer, writeAnswer, releaseAnswer}
+use Rattle.shellwaltz.specs.Refusals.{formatAnswer, checkAnswer, readAnswer, writeAnswer, releaseAnswer}
 
 -- what a call gives where it is accepted, and what it gives where it is refused
 abbrev pub ifAccepted {ℓ} : {A : Type ℓ} → Answer → A → A → A
@@ -32,7 +32,7 @@ ifAccepted Unmapped yes-this refused = refused
 ifAccepted WornOut yes-this refused = refused
 
 module _ (geo : Geometry) where
-  -- Format. "sets all words to ones, then word 0 of every block to 0": word 0 of the first m blocks
+  -- a format: all words are ones, but for word 0 of every block, which is 0. Here word 0 of the first m blocks is set
   unfoldable pub countsZeroed : Image → ℕ → Image
   countsZeroed image zero = image
   countsZeroed image (suc m) = set (countsZeroed image m) (place geo m eraseWord) 0
@@ -45,11 +45,11 @@ module _ (geo : Geometry) (image : Image) where
   unfoldable pub formatted : Image
   formatted = ifAccepted (formatAnswer geo image) (fresh geo) image
 
-  -- "it reports 0 words and 0 erasures"
+  -- a format programs and erases nothing that is counted
   abbrev pub formatOutcome : Outcome
   formatOutcome = record { answer = formatAnswer geo image; words = 0; erasures = 0 }
 
-  -- "Report gives mapped, free and dead slots and the sum of erase counts."
+  -- a report: the mapped, free and dead slots of all blocks, and the sum of their erase counts
   abbrev pub totalsOf : Totals
   totalsOf =
       record {
@@ -60,14 +60,14 @@ module _ (geo : Geometry) (image : Image) where
         «erase_sum» = sumBelow (geo .blocks) (eraseCount geo image);
       }
 
-  -- On refusal "a report's four numbers, are 0".
+  -- a refused report has four zeros
   abbrev pub noTotals : Answer → Totals
   noTotals refusal = record { answer = refusal; mapped = 0; free = 0; dead = 0; «erase_sum» = 0 }
 
   unfoldable pub reported : Totals
-  reported = ifAccepted (reportAnswer geo image) totalsOf (noTotals (reportAnswer geo image))
+  reported = ifAccepted (checkAnswer geo image) totalsOf (noTotals (checkAnswer geo image))
 
-  -- "Read copies 128 words to the buffer.": the buffer that a read leaves
+  -- the buffer that a read leaves: the contents of the slot that was found, or what it was
   abbrev pub copiedFrom : Found → List ℕ → List ℕ
   copiedFrom (At b i) buffer = contents geo image b i
   copiedFrom Nothing buffer = buffer
@@ -75,14 +75,14 @@ module _ (geo : Geometry) (image : Image) where
   unfoldable pub readBuffer : ℕ → List ℕ → List ℕ
   readBuffer n buffer = ifAccepted (readAnswer geo image n buffer) (copiedFrom (find geo image n) buffer) buffer
 
-  -- The steps of a write and of a release: none where it is refused.
+  -- the steps of a write and of a release: none where it is refused
   unfoldable pub writeSteps : ℕ → List ℕ → List Step
   writeSteps n buffer = ifAccepted (writeAnswer geo image n buffer) (writing geo image n buffer) []
 
   unfoldable pub releaseSteps : ℕ → List Step
   releaseSteps n = ifAccepted (releaseAnswer geo image n) (releasing geo image n) []
 
--- "Reported words and erasures are the counts of those two kinds of step in the call."
+-- what a call made of steps reports: how many of them program a word, and how many erase a block
 abbrev pub outcome : Answer → List Step → Outcome
 outcome answer steps = record { answer = answer; words = wordsIn steps; erasures = erasuresIn steps }
 

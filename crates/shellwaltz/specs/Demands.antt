@@ -1,54 +1,68 @@
--- The three demands as statements, in the mission's order and words. proofs/Demands.antt proves each under the name in small letters.
--- Where a statement speaks of an image or a buffer to write, it is one of 32-bit words (Words32): a slice of them always is.
+-- The three demands as statements, in the order of README.md's promises. proofs/Demands.antt proves each under the name in small letters.
+-- Where a statement speaks of an image or a buffer to write, it is one of 32-bit words (Words32): every slice is (image::slots::words_in).
 use mathlib.Core.Path.{_≡_}
 use mathlib.Core.Logic.{_≢_, _↔_}
-use mathlib.Core.Bool.{true, false}
+use mathlib.Core.Bool.{Bool, true, false, not, cond, _&&_}
 use mathlib.Core.List.{List, [], _∷_}
 use mathlib.Core.Option.{some, none}
-use Prim.Native.Nat.{ℕ, _+_, _-_, _*_, _≤_}
+use Prim.Native.Nat.{ℕ, _+_, _-_, _*_, _/_, _≤_, _<_}
+use lib.Dec.{eqb}
+use lib.ListN.{length}
 use Rattle.ranges.specs.Range.{sumBelow}
 use Rattle.bits.specs.Word.{isSet}
 use Rattle.geometry.specs.declared.Geometry.{Geometry}
-use Rattle.geometry.specs.Geometry.{d, g}
+use Rattle.geometry.specs.Geometry.{d, g, blockLength}
 use Rattle.image.specs.Words.{Image, Words32, word, eraseCount}
 use Rattle.image.specs.Slots.{mapOf}
-use Rattle.image.specs.Blocks.{freeSlots}
+use Rattle.image.specs.Blocks.{freeSlots, victim}
 use Rattle.image.specs.WellFormed.{wellFormed}
-use Rattle.flash.specs.Steps.{programmedAt, run, leavesAsked}
+use Rattle.flash.specs.Steps.{run, erasesBlock, leavesAsked}
 use Rattle.flash.specs.Placing.{releasing}
-use Rattle.flash.specs.Writing.{writing}
+use Rattle.flash.specs.Writing.{mustReclaim, writing}
 use Rattle.shellwaltz.specs.declared.Answer.{Answer}
 use Rattle.shellwaltz.specs.declared.Answer.the-variants.{Accepted, Unmapped}
-use Rattle.shellwaltz.specs.Refusals.{Row, formatRows, checkRows, reportRows, readRows, writeRows, releaseRows, formatAnswer, checkAnswer, reportAnswer, readAnswer, writeAnswer, releaseAnswer}
-use Rattle.shellwaltz.specs.Calls.{formatted, noTotals, reported, readBuffer, writeOutcome, written, releaseOutcome, released, outcome}
+use Rattle.shellwaltz.specs.Refusals.{numberOf, Row, formatRows, checkRows, readRows, writeRows, releaseRows, formatAnswer, checkAnswer, readAnswer, writeAnswer, releaseAnswer}
+use Rattle.shellwaltz.specs.Calls.{formatted, noTotals, reported, readBuffer, writeSteps, writeOutcome, written, releaseOutcome, released, outcome}
 use Rattle.shellwaltz.specs.Runs.{Call, OfWords, State, ran, started}
 
--- ---- Demand 1. "Any geometry, image, number or buffer may be handed in. Nothing traps.": no public function of src/lib.rt has a
--- `requires`, and a proved function does nothing undefined and returns.
+-- ---- Demand 1. Whatever is handed in, nothing traps: no public function of src/lib.rt has a `requires`, and a proved function does
+-- nothing undefined and returns.
 
--- "Each refusal is given exactly when its row says, in the table's order": the answer is a row's refusal exactly when that row
--- applies; where it does not, the same holds of the rows after it; where none applies, the answer is that the call is accepted
-abbrev pub ExactlyInOrder : Answer → List Row → Type 0
-ExactlyInOrder answer [] = answer ≡ Accepted
-ExactlyInOrder answer (r ∷ rs) =
-    ((answer ≡ r .refusal) ↔ (r .applies ≡ true)) × (r .applies ≡ false → ExactlyInOrder answer rs)
+-- the row numbered k is the first of these that applies
+abbrev pub isFirst : ℕ → List Row → Bool
+isFirst k [] = false
+isFirst k (r ∷ rs) = cond (r .applies) (eqb (r .number) k) (isFirst k rs)
 
+-- none of these rows applies
+abbrev pub noneApplies : List Row → Bool
+noneApplies [] = true
+noneApplies (r ∷ rs) = not (r .applies) && noneApplies rs
+
+-- The number of the answer is k exactly when the row numbered k is the first that applies; it is 0, and the call accepted, exactly when
+-- none does.
+abbrev pub GivenExactly : Answer → List Row → Type 0
+GivenExactly answer rows =
+    ((k : ℕ) → 1 ≤ k → (numberOf answer ≡ k) ↔ (isFirst k rows ≡ true))
+    × ((numberOf answer ≡ 0) ↔ (noneApplies rows ≡ true))
+    × ((answer ≡ Accepted) ↔ (numberOf answer ≡ 0))
+
+-- Refusals: each call gives a refusal exactly when its row of the table says, in the table's order. A report answers as a check does.
 abbrev pub Refusals : Type 0
 Refusals =
     (geo : Geometry) (image : Image) (n : ℕ) (buffer : List ℕ) →
-    ExactlyInOrder (formatAnswer geo image) (formatRows geo image)
-    × ExactlyInOrder (checkAnswer geo image) (checkRows geo image)
-    × ExactlyInOrder (reportAnswer geo image) (reportRows geo image)
-    × ExactlyInOrder (readAnswer geo image n buffer) (readRows geo image n buffer)
-    × ExactlyInOrder (writeAnswer geo image n buffer) (writeRows geo image n buffer)
-    × ExactlyInOrder (releaseAnswer geo image n) (releaseRows geo image n)
+    GivenExactly (formatAnswer geo image) (formatRows geo image)
+    × GivenExactly (checkAnswer geo image) (checkRows geo image)
+    × (reported geo image .answer ≡ checkAnswer geo image)
+    × GivenExactly (readAnswer geo image n buffer) (readRows geo image n buffer)
+    × GivenExactly (writeAnswer geo image n buffer) (writeRows geo image n buffer)
+    × GivenExactly (releaseAnswer geo image n) (releaseRows geo image n)
 
--- "and a refused call changes no word of image or buffer", and reports zeros
+-- A refused call changes no word of image or buffer, and reports zeros.
 abbrev pub RefusedChangesNothing : Type 0
 RefusedChangesNothing =
     (geo : Geometry) (image : Image) (n : ℕ) (buffer : List ℕ) →
     (formatAnswer geo image ≢ Accepted → formatted geo image ≡ image)
-    × (reportAnswer geo image ≢ Accepted → reported geo image ≡ noTotals geo image (reportAnswer geo image))
+    × (checkAnswer geo image ≢ Accepted → reported geo image ≡ noTotals geo image (checkAnswer geo image))
     × (readAnswer geo image n buffer ≢ Accepted → readBuffer geo image n buffer ≡ buffer)
     × (writeAnswer geo image n buffer ≢ Accepted →
     (written geo image n buffer ≡ image) × (writeOutcome geo image n buffer ≡ outcome (writeAnswer geo image n buffer) []))
@@ -57,15 +71,15 @@ RefusedChangesNothing =
 
 -- ---- Demand 2.
 
--- "On a well-formed image, reading returns what is mapped."
+-- Reading returns what is mapped; and where it answers that nothing is, nothing is.
 abbrev pub ReadReturnsTheMap : Type 0
 ReadReturnsTheMap =
     (geo : Geometry) (image : Image) (n : ℕ) (buffer : List ℕ) →
     (readAnswer geo image n buffer ≡ Accepted → mapOf geo image n ≡ some (readBuffer geo image n buffer))
     × (readAnswer geo image n buffer ≡ Unmapped → mapOf geo image n ≡ none)
 
--- "An accepted write .. leaves exactly the image that document 01's steps produce, well formed again; its map is the old one with
--- that single sector set"
+-- An accepted write leaves the image that its steps (FORMAT.md, Writing) make of the old one, well formed again, and the map with that
+-- one sector set.
 abbrev pub WriteSetsOneSector : Type 0
 WriteSetsOneSector =
     (geo : Geometry) (image : Image) (n : ℕ) (buffer : List ℕ) →
@@ -77,7 +91,7 @@ WriteSetsOneSector =
     × (mapOf geo (written geo image n buffer) n ≡ some buffer)
     × ((m : ℕ) → m ≢ n → mapOf geo (written geo image n buffer) m ≡ mapOf geo image m)
 
--- "or release .. or removed"
+-- An accepted release likewise, with that one sector removed.
 abbrev pub ReleaseRemovesOneSector : Type 0
 ReleaseRemovesOneSector =
     (geo : Geometry) (image : Image) (n : ℕ) →
@@ -88,11 +102,26 @@ ReleaseRemovesOneSector =
     × (mapOf geo (released geo image n) n ≡ none)
     × ((m : ℕ) → m ≢ n → mapOf geo (released geo image n) m ≡ mapOf geo image m)
 
--- "Programming only clears bits.": whatever word is asked for, wherever; and each step of an accepted call leaves the asked word
+-- Programming only clears bits: after a release every word has only bits that it had, and so has after a write every word but those of a
+-- block that it erased. It erases none but the victim, and that only where it has to reclaim.
 abbrev pub ProgrammingOnlyClears : Type 0
 ProgrammingOnlyClears =
-    (image : Image) (p asked j : ℕ) → isSet (word (programmedAt image p asked) p) j ≡ true → isSet (word image p) j ≡ true
+    (geo : Geometry) (image : Image) (n : ℕ) (buffer : List ℕ) (p j : ℕ) →
+    p < length image →
+    (isSet (word (released geo image n) p) j ≡ true → isSet (word image p) j ≡ true)
+    × (erasesBlock (writeSteps geo image n buffer) (p / blockLength geo) ≡ false →
+    isSet (word (written geo image n buffer) p) j ≡ true →
+    isSet (word image p) j ≡ true)
 
+abbrev pub OnlyTheVictimIsErased : Type 0
+OnlyTheVictimIsErased =
+    (geo : Geometry) (image : Image) (n b : ℕ) (buffer : List ℕ) →
+    Words32 image →
+    Words32 buffer →
+    erasesBlock (writeSteps geo image n buffer) b ≡ true →
+    (mustReclaim geo image ≡ true) × (b ≡ victim geo image) × (writeOutcome geo image n buffer .erasures ≡ 1)
+
+-- and each step of an accepted call leaves exactly the word that it asks for
 abbrev pub StepsLeaveTheAskedWord : Type 0
 StepsLeaveTheAskedWord =
     (geo : Geometry) (image : Image) (n : ℕ) (buffer : List ℕ) →
@@ -103,7 +132,7 @@ StepsLeaveTheAskedWord =
 
 -- ---- Demand 3.
 
--- "An accepted write erases at most one block and programs at most 133·(d − g) + 136 words."; without an erasure at most 135
+-- An accepted write erases at most one block, and programs at most 133·(d − g) + 136 words; without an erasure at most 135.
 abbrev pub WriteBound : Type 0
 WriteBound =
     (geo : Geometry) (image : Image) (n : ℕ) (buffer : List ℕ) →
@@ -114,8 +143,8 @@ WriteBound =
     × (writeOutcome geo image n buffer .words ≤ 133 * (d geo - g geo) + 136)
     × (writeOutcome geo image n buffer .erasures ≡ 0 → writeOutcome geo image n buffer .words ≤ 135)
 
--- "After a format and any run of calls with w accepted writes and E ≥ 1 erasures, (B − 1)·d + g·(E − 1) + 1 ≤ w, and the erase counts
--- add up to E."
+-- A run of calls from a format on, with w accepted writes and at least one erasure: E erasures need (B − 1)·d + g·(E − 1) + 1 writes or
+-- more. The erase counts add up to E.
 abbrev pub RunBound : Type 0
 RunBound =
     (geo : Geometry) (before : Image) (calls : List Call) →

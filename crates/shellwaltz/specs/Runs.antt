@@ -1,4 +1,4 @@
--- "any run of calls with w accepted writes and E .. erasures": calls made one after the other with one geometry.
+-- A run: calls made one after the other with one geometry, its accepted writes and its erasures (FORMAT.md, Costs).
 use mathlib.Core.List.{List, [], _∷_}
 use Prim.Native.Nat.{ℕ, _+_}
 use Rattle.geometry.specs.declared.Geometry.{Geometry}

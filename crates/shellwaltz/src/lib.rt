@@ -1,4 +1,4 @@
-// The calls: each tests what document 01's table of refusals says, in its order, and then does its work.
+// The calls: each tests its rows of the table of refusals (docs/FORMAT.md, Refusals), in the table's order, and then does its work.
 // Any geometry, image, number or buffer may be handed in; a refused call changes no word.
 ghost use mathlib.Core.Bool.{_&&_, true};
 ghost use mathlib.Core.List.{[]};
@@ -14,7 +14,7 @@ use flash::Plan;
 use geometry::Geometry;
 use image::Found;
 
-// What a call answers: that it was accepted, or why it was refused. specs/Refusals.antt gives each the paper's number.
+// What a call answers: that it was accepted, or why it was refused. specs/Refusals.antt gives each its number in the table of refusals.
 pub enum Answer {
     Accepted,
     BadGeometry,
@@ -25,7 +25,7 @@ pub enum Answer {
     WornOut,
 }
 
-// The paper's number of an answer.
+// An answer's number in the table of refusals.
 pub fn number(answer: Answer) -> u32
     ensures { λ r. ⌜ r ≡ numberOf answer ⌝ }
 {
@@ -63,7 +63,7 @@ fn fits(image: &[u32], geo: Geometry) -> bool
     if !geo.within_limits() {
         return false;
     }
-    image.len() == geo.length()
+    image::slots::words_in(image) == geo.length()
 }
 
 // Sets word 0 of every block to 0.

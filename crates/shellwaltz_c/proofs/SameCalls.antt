@@ -14,7 +14,7 @@ use Rattle.flash.specs.Steps.{wordsIn, erasuresIn}
 use Rattle.flash.proofs.Stores.{run-none}
 use Rattle.shellwaltz.specs.declared.Answer.the-variants.{BadGeometry}
 use Rattle.shellwaltz.specs.declared.Outcome.{Outcome}
-use Rattle.shellwaltz.specs.Refusals.{numberOf, formatAnswer, checkAnswer, reportAnswer, readAnswer, writeAnswer, releaseAnswer}
+use Rattle.shellwaltz.specs.Refusals.{numberOf, formatAnswer, checkAnswer, readAnswer, writeAnswer, releaseAnswer}
 use Rattle.shellwaltz.specs.Calls.{formatOutcome, formatted, noTotals, reported, readBuffer, outcome, writeSteps, writeOutcome, written, releaseSteps, releaseOutcome, released}
 use Rattle.shellwaltz_c.specs.Plain.{of, narrowed}
 
@@ -61,7 +61,7 @@ module _ {geo : Geometry} (b s l : ℕ) (e : geo ≡ of (narrowed b) (narrowed s
   check-same = narrowing (λ x. checkAnswer x image) BadGeometry (λ x out. rw out) b s l e
 
   pub report-same : reported geo image ≡ reported (of b s l) image
-  unfolding reportAnswer reported
+  unfolding checkAnswer reported
   report-same = narrowing (λ x. reported x image) (noTotals geo image BadGeometry) (λ x out. rw out) b s l e
 
   pub read-same :

@@ -13,13 +13,13 @@ use Rattle.geometry.specs.Places.{place, entryWord}
 use Rattle.geometry.proofs.Laws.{logical-small}
 use Rattle.image.specs.declared.Found.{Found}
 use Rattle.image.specs.Words.{Image, Shaped}
-use Rattle.image.specs.Slots.{validBit, currentBit, find}
+use Rattle.image.specs.Slots.{validBit, currentBit, find, isAt}
 use Rattle.image.specs.Blocks.{full}
 use Rattle.image.proofs.Reading.{entry-inside}
 use Rattle.flash.specs.Steps.{programmedAt, run, wordsIn}
 use Rattle.flash.specs.Placing.{entryAt, programsEntry, takesSlot, storesContents, fillsSlot, closesBlock, placing}
 use Rattle.flash.proofs.Stores.{counts-words, words-append}
-use Rattle.flash.proofs.Counts.{isAt, entry-count, closing-count, filling-count}
+use Rattle.flash.proofs.Counts.{entry-count, closing-count, filling-count}
 use Rattle.flash.proofs.CodeLaws.{still-shaped, found-inside, run-program, run-then}
 use Rattle.placing.proofs.place_over.Statement.{statement}
 use Rattle.placing.proofs.place_over.Tie as tie

@@ -11,12 +11,19 @@ within-limits-requires c κs = search needs
 returns : tie.Need-returns
 returns c = rw (sym (c .before .within-limits .ensures) ∙ not-true _ (c .if1 .taken))
 
+words-in-requires : tie.Need-words-in-requires
+words-in-requires c κs = search needs
+
 length-requires : tie.Need-length-requires
 length-requires c κs = search needs
 
 returns-2 : tie.Need-returns-2
 returns-2 c =
-    rw (sym (c .before .before .within-limits .ensures) ∙ not-false _ (c .before .if1 .left), c .length .ensures)
+    rw (
+      sym (c .before .before .before .within-limits .ensures) ∙ not-false _ (c .before .before .if1 .left),
+      c .before .words-in .ensures .0,
+      c .length .ensures,
+    )
 
 pub fits-spec : {M : Type 1} → statement M
-fits-spec = tie.close (tie.spec within-limits-requires returns length-requires returns-2)
+fits-spec = tie.close (tie.spec within-limits-requires returns words-in-requires length-requires returns-2)

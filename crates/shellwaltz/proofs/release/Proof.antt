@@ -1,6 +1,6 @@
 -- `shellwaltz::release` meets its contract: its tests are rows 1, 3, 4 and 5, asked in that order; row 5 applies where no word was programmed.
 use mathlib.Core.Path.{_≡_, refl, sym, ap, _∙_}
-use mathlib.Core.Bool.{false}
+use mathlib.Core.Bool.{true, false, not}
 use mathlib.Core.List.{[]}
 use Prim.Native.Nat.{ℕ}
 use native.Mathlib.Omega.{arith}
@@ -10,15 +10,15 @@ use Rattle.geometry.specs.declared.Geometry.{Geometry}
 use Rattle.image.specs.declared.Found.{Found}
 use Rattle.image.specs.declared.Found.the-variants.{At, Nothing}
 use Rattle.image.specs.Words.{Image}
-use Rattle.image.specs.Slots.{find}
+use Rattle.image.specs.Slots.{isAt, find, isMapped}
 use Rattle.ranges.specs.Range.{one-if}
 use Rattle.flash.specs.Steps.{wordsIn}
 use Rattle.flash.specs.Placing.{releasing}
-use Rattle.flash.proofs.Counts.{isAt, releasing-words, releasing-erasures}
+use Rattle.flash.proofs.Counts.{releasing-words, releasing-erasures}
 use Rattle.flash.proofs.Stores.{run-none}
 use Rattle.shellwaltz.specs.declared.Answer.{Answer}
 use Rattle.shellwaltz.specs.declared.Outcome.{Outcome}
-use Rattle.shellwaltz.specs.Refusals.{row1, row4, isNothing, releaseRows, releaseAnswer}
+use Rattle.shellwaltz.specs.Refusals.{row1, row4, releaseRows, releaseAnswer}
 use Rattle.shellwaltz.specs.Calls.{outcome, releaseSteps, releaseOutcome, released}
 use Rattle.shellwaltz.proofs.CallLaws.{as-tested, shaped-left}
 use Rattle.shellwaltz.proofs.Rows.{FirstIs, here, later}
@@ -34,10 +34,10 @@ nothing-found geo image n words p z = go (find geo image n) refl
     go (At b i) e = absurd (omega (arith, p ∙ releasing-words geo image n ∙ ap (λ (f : Found). one-if (isAt f)) e))
     go Nothing e = e
 
-something-found : (geo : Geometry) (image : Image) (n words : ℕ) → words ≡ wordsIn (releasing geo image n) → (words ≡ 0 → ⊥) → isNothing (find geo image n) ≡ false
+something-found : (geo : Geometry) (image : Image) (n words : ℕ) → words ≡ wordsIn (releasing geo image n) → (words ≡ 0 → ⊥) → isMapped geo image n ≡ true
 something-found geo image n words p z = go (find geo image n) refl
   where
-    go : (f : Found) → find geo image n ≡ f → isNothing (find geo image n) ≡ false
+    go : (f : Found) → find geo image n ≡ f → isMapped geo image n ≡ true
     go (At b i) e = rw e
     go Nothing e = absurd (z (p ∙ releasing-words geo image n ∙ ap (λ (f : Found). one-if (isAt f)) e))
 
@@ -124,7 +124,7 @@ returns-4 c =
     (later (left1 (second .before .before))
     (later (lt-leb _ _ (second .if2 .left))
     (later (left3 third)
-    (here (ap isNothing none)))))
+    (here (ap (λ (f : Found). not (isAt f)) none)))))
     (c .refused4 .ensures) in
     (left .0, done .ensures .1 ∙ rw none (run-none _ _) ∙ left .1)
 
