@@ -19,7 +19,7 @@ use flash::Plan;
 use geometry::Geometry;
 use placing::place;
 
-// Rule 3: none open, one blank.
+// Whether rule 3 applies: no block is open, and a single one is blank.
 fn must_reclaim(image: &[u32], geo: Geometry) -> bool
     requires { ⌜ Shaped geo (now image) ⌝ }
     requires { ⌜ MapsAgree geo (now image) ⌝ }
