@@ -1,6 +1,6 @@
 /* Times of the linked library, beside the second implementation and beside the floor, and the stack that each call uses.
  *
- * The floor is what no program that keeps document 01 can go below: one pass over just the words that the rules must look at, each
+ * The floor is what no program that keeps to docs/FORMAT.md can go below: one pass over just the words that the rules must look at, each
  * loaded once. A read adds the sector's words to it, a write those that it programs (and, with a reclaim, those that it erases).
  *
  * Each number is the least time of many rounds, so that what else the machine does counts little. */

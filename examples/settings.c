@@ -6,7 +6,7 @@
 
 enum { BLOCKS = 4, SECTORS = 8, LOGICAL = 16, SETTINGS = 7 };
 
-/* On a part this is the flash, mapped to memory or mirrored; here it is an array. */
+/* The mirror of the part. A driver loads it at the start, and carries over to the part what each accepted call changed: docs/USING.md. */
 static uint32_t image[SHELLWALTZ_IMAGE_WORDS(BLOCKS, SECTORS)];
 static const size_t image_words = sizeof image / sizeof *image;
 
@@ -40,7 +40,7 @@ int main(void)
     printf("tariff %u\n", (unsigned)sector[1]);
 
     show("report", shellwaltz_report(BLOCKS, SECTORS, LOGICAL, image, image_words, &mapped, &free_slots, &dead, &erase_sum));
-    printf("%u stored, %u free, %u outdated, %u erased\n", (unsigned)mapped, (unsigned)free_slots, (unsigned)dead, (unsigned)erase_sum);
+    printf("%u stored, %u free, %u dead, %u erased\n", (unsigned)mapped, (unsigned)free_slots, (unsigned)dead, (unsigned)erase_sum);
 
     show("release", shellwaltz_release(BLOCKS, SECTORS, LOGICAL, image, image_words, SETTINGS, &words, &erasures));
     show("read", shellwaltz_read(BLOCKS, SECTORS, LOGICAL, image, image_words, SETTINGS, sector, SHELLWALTZ_SECTOR_WORDS));

@@ -5,6 +5,10 @@
  * heap and no global state, calls nothing but memcpy and memset, and any number of images may be in use at once. A call uses less
  * than 4 KiB of stack.
  *
+ * The image is memory, a mirror of the part. A call's contract fixes the image that the call leaves, and not the stores on the way, so a
+ * store is not the programming of a word: after an accepted call the driver carries the changes over to the part (docs/USING.md).
+ * docs/FORMAT.md says what the words of an image mean and what each call does.
+ *
  * What is handed in: every number may have any value, and an image or a buffer any length and contents. A pointer must be good for
  * the length handed in with it (also where that is 0), and a pointer to a count for one uint32_t. What a call writes (an image or
  * buffer that is not const, and the counts) must overlap with nothing else that is handed to it. Lengths are in words, not bytes.
@@ -52,8 +56,9 @@ uint32_t shellwaltz_format(uint32_t blocks, uint32_t sectors, uint32_t logical, 
 /* Whether the image is well formed: SHELLWALTZ_OK exactly when every rule of the format holds. Refuses 1 and 4. Changes nothing. */
 uint32_t shellwaltz_check(uint32_t blocks, uint32_t sectors, uint32_t logical, const uint32_t *image, size_t image_words);
 
-/* How many slots hold a stored sector (*mapped), are free (*free_slots) and hold an outdated one (*dead), and the sum of all blocks'
- * erase counts (*erase_sum). Refuses 1 and 4. Changes no word of the image. */
+/* How many slots hold a stored sector (*mapped), are free (*free_slots) and are dead (*dead: replaced, released or never finished; their
+ * room comes back when their block is erased), and the sum of all blocks' erase counts (*erase_sum). Refuses 1 and 4. Changes no word
+ * of the image. */
 uint32_t shellwaltz_report(uint32_t blocks, uint32_t sectors, uint32_t logical, const uint32_t *image, size_t image_words,
                            uint32_t *mapped, uint32_t *free_slots, uint32_t *dead, uint32_t *erase_sum);
 

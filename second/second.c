@@ -148,7 +148,7 @@ static bool looks_live(uint32_t entry)
 
 /* ---- Check ------------------------------------------------------------- */
 
-/* The rest of R2: map bits from d on are ones. */
+/* The rest of R2: the map bits that belong to no slot are set. */
 static bool padding_is_ones(struct second_geometry g, const uint32_t *head)
 {
     uint32_t used = second_slots(g) % MAP_BITS;
@@ -229,7 +229,7 @@ static bool well_formed(struct second_geometry g, const uint32_t *image)
 
 /* ---- Looking into a well-formed image ---------------------------------- */
 
-/* The one slot, in any block, whose entry is live for the number. */
+/* Where the number is live; R5 lets that be one slot at most. */
 static bool find_live(struct second_geometry g, const uint32_t *image,
                       uint32_t number, struct spot *at)
 {
@@ -260,7 +260,7 @@ static uint32_t free_slots_of(struct second_geometry g, const uint32_t *image,
 
     for (uint32_t i = 0; i < map_words; i++)
         ones += count_ones(map[i]);
-    /* The bits from d on are ones and stand for no slot. */
+    /* The bits that belong to no slot are set as well. */
     return ones - (map_words * MAP_BITS - second_slots(g));
 }
 

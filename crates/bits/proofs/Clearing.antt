@@ -59,7 +59,7 @@ cleared-here w j =
     (λ e. ap (λ (x : ℕ). bit x j) (cleared-set w j e) ∙ less-here j w e)
     (bit-cases w j)
 
--- "other bits keep their value"
+-- and every other bit is what it was
 pub cleared-other : (w j i : ℕ) → (i ≡ j → ⊥) → bit (cleared w j) i ≡ bit w i
 cleared-other w j i n =
     ⊎-elim

@@ -41,7 +41,7 @@ shared-bit (suc m) a b (suc j) l =
 
 -- ---- on words
 
--- "The computing form .. equals the library's bitAnd on words."
+-- on words the definition, which computes, is the library's bitAnd, which does not
 pub programmed-and : (old asked : ℕ) → old < 2 ^ 32 → programmed old asked ≡ bitAnd old asked
 programmed-and old asked l = shared-and 32 old asked l
 
@@ -49,7 +49,7 @@ programmed-and old asked l = shared-and 32 old asked l
 pub programmed-lt : (old asked : ℕ) → programmed old asked < 2 ^ 32
 programmed-lt old asked = shared-lt 32 old asked
 
--- "programming never sets a bit"
+-- a bit that is set after was set before
 pub programmed-never-sets : (old asked j : ℕ) → isSet (programmed old asked) j ≡ true → isSet old j ≡ true
 programmed-never-sets old asked j t = go (decLt j 32)
   where
@@ -58,7 +58,7 @@ programmed-never-sets old asked j t = go (decLt j 32)
     go (no n) =
         absurd (omega (arith, bit-set (programmed old asked) j t, bit-beyond 32 (programmed old asked) j (programmed-lt old asked) (omega arith)))
 
--- "the asked word is left exactly when it only clears bits"
+-- an asked word that has no bit set but those of the old one is left as asked
 pub left-when-only-clears : (old asked : ℕ) → asked < 2 ^ 32 → onlyClears old asked ≡ true → programmed old asked ≡ asked
 left-when-only-clears old asked l t =
     bits-same 32 (programmed old asked) asked (programmed-lt old asked) l

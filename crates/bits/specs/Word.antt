@@ -22,12 +22,12 @@ isSet w j = eqb (bit w j) 1
 unfoldable pub cleared : ℕ → ℕ → ℕ
 cleared w j = w - bit w j * 2 ^ j
 
--- The lowest m bits that two words share. (The library's bitAnd says the same and does not compute on words: proofs/Laws.antt.)
+-- The lowest m bits that two words share. (The library's bitAnd says the same and does not compute on words: proofs/Programming.antt.)
 unfoldable pub shared : ℕ → ℕ → ℕ → ℕ
 shared zero a b = 0
 shared (suc m) a b = shared m (a / 2) (b / 2) * 2 + min (a % 2) (b % 2)
 
--- "the new word is the old one and the asked one, bit by bit"
+-- what programming leaves of two words: the bits that both have set (FORMAT.md, Steps)
 abbrev pub programmed : ℕ → ℕ → ℕ
 programmed old asked = shared wordBits old asked
 

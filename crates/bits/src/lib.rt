@@ -21,7 +21,7 @@ pub fn clear_bit(w: u32, j: u32) -> u32
     w & (0xFFFF_FFFF - (1u32 << j))
 }
 
-// What programming leaves: the old word and the asked one, bit by bit.
+// What programming leaves: the bits that the old word and the asked one both have set.
 pub fn program(old: u32, asked: u32) -> u32
     ensures { λ r. ⌜ r ≡ programmed old asked ⌝ }
 {

@@ -90,7 +90,7 @@ pub fn lowest_free(image: &[u32], geo: Geometry, b: usize) -> usize
     d
 }
 
-// The lowest-numbered open block; B where none is open.
+// The first open block; B where none is open.
 pub fn lowest_open(image: &[u32], geo: Geometry) -> usize
     requires { ⌜ Shaped geo (now image) ⌝ }
     requires { ⌜ MapsAgree geo (now image) ⌝ }
@@ -139,7 +139,7 @@ pub fn count_blank(image: &[u32], geo: Geometry) -> usize
     count
 }
 
-// The blank block with the least erase count, the lowest-numbered on a tie; B where none is blank.
+// The blank block that rule 2 takes: the least worn, the first among equals; B where none is blank.
 pub fn least_worn_blank(image: &[u32], geo: Geometry) -> usize
     requires { ⌜ Shaped geo (now image) ⌝ }
     requires { ⌜ MapsAgree geo (now image) ⌝ }
@@ -165,7 +165,8 @@ pub fn least_worn_blank(image: &[u32], geo: Geometry) -> usize
     best
 }
 
-// The full block with most dead slots, then the least erase count, then the lowest number; B where none is full.
+// The victim of rule 3: of the full blocks the one with most dead slots, the least worn among equals, and the first of those; B where none
+// is full.
 pub fn victim(image: &[u32], geo: Geometry) -> usize
     requires { ⌜ Shaped geo (now image) ⌝ }
     ensures { λ r. ⌜ r ≡ victim geo (now (image .entry)) ⌝ }

@@ -58,7 +58,7 @@ module _ (geo : Geometry) (image : Image) where
   open-free b o = not-false _ (not-true (full geo image b) (both-pass (not (blank geo image b)) (not (full geo image b)) o .1))
 
 module _ (geo : Geometry) (image : Image) (within : Limits geo) where
-  -- "1. If any block is open: the lowest free slot of the lowest-numbered open block."
+  -- rule 1: a block is open
   rule-1 : anyOpen geo image ≡ true → {c : ℕ} → c < geo .blocks → blank geo image c ≡ true → Choice geo image
   unfolding filling lowestOpen lowestFree
   rule-1 t {c} l empty =
@@ -82,7 +82,7 @@ module _ (geo : Geometry) (image : Image) (within : Limits geo) where
             };
       }
 
-  -- "2. None open, two or more blank: slot 0 of the blank block with the least erase count"
+  -- rule 2: none is open, and two are blank
   rule-2 : anyOpen geo image ≡ false → Two (geo .blocks) (blank geo image) → Choice geo image
   unfolding filling leastWornBlank
   rule-2 t two =

@@ -1,4 +1,5 @@
--- How many words a placing programs. "Placing costs 131 words, 2 more for a replacement, 2 more if the block fills." Assumes nothing.
+-- How many words a placing programs: 131, and 2 more each where a number is replaced and where the block fills (FORMAT.md, Costs).
+-- Assumes nothing.
 use mathlib.Core.Path.{_≡_, refl}
 use mathlib.Core.Bool.{Bool, true, false}
 use mathlib.Core.List.{List}

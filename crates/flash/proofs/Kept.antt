@@ -229,7 +229,7 @@ module _
               let were = s .bounded c j m l h (sym (full-as-before c l x) ∙ f) (live-before m c j l h other e) in
               (omega (arith, same .0, were .0), omega (arith, same .1, were .1))
 
-      -- "a placing keeps an image sound"
+      -- so the image after a placing is sound if the one before is
       pub placed-sound : Sound geo after
       placed-sound =
           record {

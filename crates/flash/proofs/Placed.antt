@@ -429,7 +429,7 @@ module _ (geo : Geometry) (image : Image) (n : ℕ) (ws : List ℕ) (b i : ℕ) 
   pub placing-bounds : Bounds geo image final b
   placing-bounds = record { elsewhere = bounds-other; open-block = bounds-open; full-block = bounds-full }
 
-  -- "Placing costs 131 words, 2 more for a replacement, 2 more if the block fills."
+  -- the words that a placing programs (FORMAT.md, Costs), by the image that it leaves
   pub placing-cost : wordsIn (placing geo image n ws b i) ≡ 131 + 2 * one-if (isAt (find geo image n)) + 2 * one-if (full geo final b)
   placing-cost = placing-words geo image n ws b i ∙ ap (λ (f : Bool). 131 + 2 * one-if (isAt (find geo image n)) + 2 * one-if f) (sym full-final)
 

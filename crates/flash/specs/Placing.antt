@@ -1,4 +1,4 @@
--- "Placing n in a slot programs, in order": (a) to (g). And release, which programs one word.
+-- A placing as a list of steps, (a) to (g) (FORMAT.md, Placing); and a release, which is one step (FORMAT.md, Release).
 use mathlib.Core.Bool.{cond}
 use mathlib.Core.List.{List, [], _∷_, _++_}
 use mathlib.Core.Path.{_≡_}
@@ -23,7 +23,7 @@ pub record InImage (geo : Geometry) (found : Found) : Type 0 where
   pub slot-of : (b i : ℕ) → found ≡ At b i → i < d geo
 
 module _ (geo : Geometry) where
-  -- "(a) the map word with that slot's bit cleared"
+  -- (a): the slot is marked as taken in the map
   abbrev pub takesSlot : Image → ℕ → ℕ → List Step
   takesSlot image b i = Program (place geo b (mapWord i)) (cleared (freeMap geo image b i) (i % 32)) ∷ []
 
@@ -36,27 +36,27 @@ module _ (geo : Geometry) where
   programsEntry (At b i) asked = Program (place geo b (entryWord geo i)) asked ∷ []
   programsEntry Nothing asked = []
 
-  -- "(b) if n was live elsewhere, the old entry with bit 30 cleared"
+  -- (b): the old entry, if there is one, is marked as no longer current
   abbrev pub outdates : Image → Found → List Step
   outdates image old = programsEntry old (cleared (entryAt image old) currentBit)
 
-  -- "(c) 128 content words, ascending"
+  -- (c): the contents, from the first word on
   abbrev pub storesContents : ℕ → ℕ → List ℕ → List Step
   storesContents b i ws = listBelow sectorWords (λ j. Program (place geo b (contentWord geo i j)) (getD ws j 0))
 
-  -- "(d) the entry 0xE0000000 + n"
+  -- (d): the entry with its number, still unfinished
   abbrev pub beginsEntry : ℕ → ℕ → ℕ → List Step
   beginsEntry b i n = Program (place geo b (entryWord geo i)) (0xE0000000 + n) ∷ []
 
-  -- "(e) the entry 0xC0000000 + n"
+  -- (e): the entry, finished: live from here on
   abbrev pub completesEntry : ℕ → ℕ → ℕ → List Step
   completesEntry b i n = Program (place geo b (entryWord geo i)) (0xC0000000 + n) ∷ []
 
-  -- "(f) if (b) was done, the old entry with bits 30 and 31 cleared"
+  -- (f): the old entry, if there is one, is made invalid
   abbrev pub retires : Image → Found → List Step
   retires image old = programsEntry old (cleared (cleared (entryAt image old) currentBit) validBit)
 
-  -- "the least and .. the greatest number now live in the block"
+  -- the least and the greatest number that are live in block b; L where none is
   unfoldable pub leastLive : Image → ℕ → ℕ
   leastLive image b = firstBelow (geo .logical) (liveIn geo image b)
 
@@ -66,7 +66,7 @@ module _ (geo : Geometry) where
   abbrev pub liveBounds : Image → ℕ → LiveBounds
   liveBounds image b = record { least = leastLive image b; greatest = greatestLive image b }
 
-  -- "(g) if this took the block's last free slot, word 1 with the least and word 2 with the greatest number now live in the block"
+  -- (g): in a block that is full now, words 1 and 2 with the bounds of its live numbers, on the image after (f)
   unfoldable pub closesBlock : Image → ℕ → List Step
   closesBlock image b =
       cond (full geo image b)
@@ -83,13 +83,13 @@ module _ (geo : Geometry) where
       ++ (completesEntry b i n
       ++ retires image old))))
 
-  -- "Placing n in a slot": (a) to (g)
+  -- the placing of n: (a) to (g), over the slot where n is found when it begins
   unfoldable pub placing : Image → ℕ → List ℕ → ℕ → ℕ → List Step
   placing image n ws b i =
       let filled = fillsSlot image (find geo image n) n ws b i in
       filled ++ closesBlock (run geo image filled) b
 
-  -- "Release programs the live entry with bit 31 cleared: one word."
+  -- a release: the live entry is made invalid
   abbrev pub invalidates : Image → Found → List Step
   invalidates image live = programsEntry live (cleared (entryAt image live) validBit)
 

@@ -1,4 +1,4 @@
--- The two kinds of step, what each does to an image, and how many of each a list of steps has.
+-- The two kinds of step, what each does to an image, and how many of each a list of steps has (FORMAT.md, Steps).
 use mathlib.Core.Bool.{Bool, true, false, _&&_, _||_}
 use mathlib.Core.List.{List, [], _∷_, _++_}
 use Prim.Native.Nat.{ℕ, suc}
@@ -10,23 +10,23 @@ use Rattle.geometry.specs.Geometry.{blockLength}
 use Rattle.geometry.specs.Places.{place}
 use Rattle.image.specs.Words.{Image, word}
 
--- "Each step either programs one word .. or erases one block."
+-- a word to program, or a block to erase
 pub data Step : Type 0 where
   -- a place, and the word asked for there
   Program : ℕ → ℕ → Step
   -- a block
   Erase : ℕ → Step
 
--- "every word of that block is set to ones"
+-- the image with every word of block b all ones
 unfoldable pub erasedBlock : Geometry → Image → ℕ → Image
 erasedBlock geo image b =
     take (place geo b 0) image ++ (replicate (blockLength geo) ones ++ drop (place geo b (blockLength geo)) image)
 
--- the word at a place programmed: "the new word is the old one and the asked one, bit by bit"
+-- the image with the word at a place programmed: what is left there are the bits that it shares with the asked word
 abbrev pub programmedAt : Image → ℕ → ℕ → Image
 programmedAt image p w = set image p (programmed (word image p) w)
 
--- "programs one word (the new word is the old one and the asked one, bit by bit) or erases one block"
+-- the image after one step
 unfoldable pub applied : Geometry → Image → Step → Image
 applied geo image (Program p w) = programmedAt image p w
 applied geo image (Erase b) = erasedBlock geo image b
@@ -36,7 +36,7 @@ unfoldable pub run : Geometry → Image → List Step → Image
 run geo image [] = image
 run geo image (s ∷ ss) = run geo (applied geo image s) ss
 
--- "Reported words and erasures are the counts of those two kinds of step in the call."
+-- what a call reports of its steps: how many programmed a word, and how many erased a block
 unfoldable pub wordsIn : List Step → ℕ
 wordsIn [] = 0
 wordsIn (Program p w ∷ ss) = suc (wordsIn ss)
@@ -53,8 +53,7 @@ erasesBlock [] b = false
 erasesBlock (Program p w ∷ ss) b = erasesBlock ss b
 erasesBlock (Erase c ∷ ss) b = eqb c b || erasesBlock ss b
 
--- "In (a) to (g), in release and in the count after an erase, the word left is exactly the asked one.": each step that programs
--- a word leaves the asked word at its place
+-- each step that programs a word leaves the asked word at its place: it asks for no bit that is clear already
 unfoldable pub leavesAsked : Geometry → Image → List Step → Bool
 leavesAsked geo image [] = true
 leavesAsked geo image (Program p w ∷ ss) =

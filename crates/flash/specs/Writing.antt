@@ -1,4 +1,4 @@
--- "Write picks a slot, then moves the data in": rules 1, 2 and 3.
+-- A write as a list of steps: rules 1, 2 and 3 (FORMAT.md, Writing).
 use mathlib.Core.Bool.{Bool, not, cond, _&&_}
 use mathlib.Core.List.{List, [], _∷_, _++_}
 use mathlib.Core.Path.{_≡_}
@@ -26,22 +26,22 @@ pub record Copied : Type 0 where
   pub taken : ℕ
 
 module _ (geo : Geometry) where
-  -- "1. If any block is open: the lowest free slot of the lowest-numbered open block."
+  -- rule 1: in the first free slot of the first open block
   abbrev pub inOpenBlock : Image → ℕ → List ℕ → List Step
   inOpenBlock image n ws = placing geo image n ws (lowestOpen geo image) (lowestFree geo image (lowestOpen geo image))
 
-  -- "2. None open, two or more blank: slot 0 of the blank block with the least erase count, lowest number on a tie."
+  -- rule 2: in slot 0 of the least worn blank block
   abbrev pub inBlankBlock : Image → ℕ → List ℕ → List Step
   inBlankBlock image n ws = placing geo image n ws (leastWornBlank geo image) 0
 
   abbrev pub anyOpen : Image → Bool
   anyOpen image = anyBelow (geo .blocks) (isOpen geo image)
 
-  -- "rule 1 or 2 applies"
+  -- rule 1 where a block is open, and else rule 2
   unfoldable pub filling : Image → ℕ → List ℕ → List Step
   filling image n ws = cond (anyOpen image) (inOpenBlock image n ws) (inBlankBlock image n ws)
 
-  -- "3. None open, one blank: reclaim."
+  -- rule 3 applies: no block is open, and a single one is blank
   unfoldable pub mustReclaim : Image → Bool
   mustReclaim image = not (anyOpen image) && eqb (countBelow (geo .blocks) (blank geo image)) 1
 
@@ -56,7 +56,7 @@ module _ (geo : Geometry) where
   copiedSlot now v t i before Dead = before
   copiedSlot now v t i before Faulty = before
 
-  -- "Its live slots are placed, in slot order, in slots 0, 1, 2 and on of the blank block.": the first m slots of v
+  -- the copying of a reclaim, for the first m slots of v: the live ones go to slots 0, 1, .. of t, each in its turn
   unfoldable pub copying : Image → ℕ → ℕ → ℕ → Copied
   copying image v t zero = record { steps = []; taken = 0 }
   copying image v t (suc m) =
@@ -73,21 +73,21 @@ module _ (geo : Geometry) where
         slot geo (run geo image (copying image v t m .steps)) v m ≡ Live n →
         find geo (run geo image (copying image v t m .steps)) n ≡ At v m
 
-  -- "The victim is erased: every word of that block is set to ones, then word 0 is programmed with the old count plus 1."
+  -- the end of a reclaim: v is erased, and its word 0 programmed with one more than it was
   abbrev pub erasing : Image → ℕ → List Step
   erasing image v = Erase v ∷ Program (place geo v eraseWord) (eraseCount geo image v + 1) ∷ []
 
-  -- the reclaim of block v into "the blank block": there is one, so it is the least worn
+  -- the reclaim of block v into the blank block: there is a single one, so it is the least worn
   unfoldable pub reclaiming : Image → ℕ → List Step
   reclaiming image v = copying image v (leastWornBlank geo image) (d geo) .steps ++ erasing image v
 
-  -- rule 3, with the victim v: "Then rule 1 or 2 applies."
+  -- rule 3, with the victim v: the reclaim, and then rule 1 or 2 on the image that it leaves
   unfoldable pub reclaimingFirst : Image → ℕ → ℕ → List ℕ → List Step
   reclaimingFirst image v n ws =
       let reclaimed = reclaiming image v in
       reclaimed ++ filling (run geo image reclaimed) n ws
 
-  -- "Write picks a slot, then moves the data in"
+  -- a write of n with the contents ws
   unfoldable pub writing : Image → ℕ → List ℕ → List Step
   writing image n ws =
       cond (mustReclaim image) (reclaimingFirst image (victim geo image) n ws) (filling image n ws)

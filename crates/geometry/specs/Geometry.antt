@@ -1,14 +1,14 @@
--- "Geometry". "Three numbers are given: blocks B .., sectors per block S .., logical sectors L. Everything else is worked out from the three".
+-- The numbers of a geometry: what follows from the three that are handed in, and their limits (FORMAT.md, Geometry).
 use mathlib.Core.Bool.{Bool, _&&_}
 use Prim.Native.Nat.{ℕ, _+_, _*_, _-_, _/_, _≤_, _<_}
 use lib.Dec.{leb, ltb}
 use Rattle.geometry.specs.declared.Geometry.{Geometry}
 
--- a / b "rounded up"
+-- a / b, rounded up
 unfoldable pub roundedUp : ℕ → ℕ → ℕ
 roundedUp a b = (a + (b - 1)) / b
 
--- "A sector is 128 words (512 bytes)."
+-- the words of a sector
 abbrev pub sectorWords : ℕ
 sectorWords = 128
 
@@ -16,30 +16,30 @@ sectorWords = 128
 abbrev pub managementSectors : Geometry → ℕ
 managementSectors geo = 1
 
--- "d = S − 1": the slots of a block
+-- d: the slots of a block, its sectors less those of management
 abbrev pub d : Geometry → ℕ
 d geo = geo .sectors - managementSectors geo
 
--- "k = d / 32 rounded up": the words of a block's free map
+-- k: the words of a block's free map, with a bit for each slot
 abbrev pub k : Geometry → ℕ
 k geo = roundedUp (d geo) 32
 
 abbrev pub blockLength : Geometry → ℕ
 blockLength geo = geo .sectors * sectorWords
 
--- "image length B·S·128 words"
+-- the words of an image
 abbrev pub imageLength : Geometry → ℕ
 imageLength geo = geo .blocks * blockLength geo
 
--- "(B − 1)·d": the slots of all blocks but one
+-- (B − 1)·d: the slots of all blocks but one
 abbrev pub room : Geometry → ℕ
 room geo = (geo .blocks - 1) * d geo
 
--- "g = ((B − 1)·d − L) / (B − 1) rounded up"
+-- g: the room that the logical sectors leave, shared out over all blocks but one; a victim has at least so many dead slots
 unfoldable pub g : Geometry → ℕ
 g geo = roundedUp (room geo - geo .logical) (geo .blocks - 1)
 
--- "blocks B from 2 to 64, sectors per block S from 2 to 64 .. L runs from 1 to (B − 1)·d − 1"
+-- the limits of B, S and L: what refusal 1 tests, beside the length
 unfoldable pub withinLimits : Geometry → Bool
 withinLimits geo =
     leb 2 (geo .blocks) && leb (geo .blocks) 64

@@ -3,7 +3,7 @@ ghost use Prim.Native.Nat.{_<_};
 ghost use Rattle.geometry.specs.Geometry.{d, k, g, blockLength, imageLength, withinLimits, Limits};
 ghost use Rattle.geometry.specs.Places.{place, eraseWord, mapWord, entryWord, contentWord};
 
-// "Three numbers are given: blocks B .., sectors per block S .., logical sectors L." Any three may be handed in:
+// The three numbers B, S and L (FORMAT.md, Geometry), by value. Any three may be handed in:
 // each method is total, and what it gives is what specs/Geometry.antt says, within the limits or not.
 pub struct Geometry {
     pub blocks: u16,

@@ -43,7 +43,7 @@ module _ (geo : Geometry) (image : Image) (s : Sound geo image) where
         sum-const (d geo) 1,
       )
 
-  -- "report's mapped, free and dead add up to B·d"
+  -- the three numbers of slots that a report gives are all the slots that there are
   pub image-parts :
       sumBelow (geo .blocks) (liveSlots geo image) + sumBelow (geo .blocks) (freeSlots geo image) + sumBelow (geo .blocks) (deadSlots geo image)
       ≡ geo .blocks * d geo
@@ -75,7 +75,7 @@ module _ (geo : Geometry) (image : Image) (s : Sound geo image) where
         (λ b i. isLiveFor n (slot geo image b i))
         (λ b c i j l l' h h' e e'. s .once n b c i j l l' h h' (live-for n _ e) (live-for n _ e'))
 
-    -- "mapped is at most L"
+    -- so no more than L slots are live
     pub live-at-most : sumBelow (geo .blocks) (liveSlots geo image) ≤ geo .logical
     live-at-most =
         let at : ℕ → ℕ → ℕ → ℕ = λ n b i. one-if (isLiveFor n (slot geo image b i)) in
@@ -118,7 +118,7 @@ module _ (geo : Geometry) (image : Image) (s : Sound geo image) where
         go true e = omega (arith, blank-free b e)
         go false e = omega (arith, full-free b (shut-full b (none-open b l) e))
 
-    -- "it erases only when F = d": the free slots are the blank block's
+    -- where rule 3 applies, the free slots of the image are those of the blank block
     pub free-is-a-block : sumBelow (geo .blocks) (freeSlots geo image) ≡ d geo
     free-is-a-block =
         let each = sum-ext (geo .blocks) shut-free in

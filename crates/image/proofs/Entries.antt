@@ -15,7 +15,7 @@ use Rattle.image.specs.Slots.{isFreeEntry, isComplete, slotOf, isFree, i
 six : (x : ℕ) → x < 8 → x / 4 % 2 ≡ 1 → x / 2 % 2 ≡ 1 → (x % 2 ≡ 1 → ⊥) → x ≡ 6
 six x l p q r = omega arith
 
--- "bits 31 and 30 are set, bit 29 is clear": above bit 29 there is a 6
+-- valid, current and finished: the upper three bits of the entry are 6
 pub complete-is-6 : (e : ℕ) → e < 2 ^ 32 → isComplete e ≡ eqb (e / 2 ^ 29) 6
 unfolding isComplete bit
 complete-is-6 e l = go (eqb (e / 2 ^ 29) 6) refl

@@ -10,7 +10,7 @@ use Rattle.image.specs.Words.{Image, eraseCount}
 use Rattle.image.specs.Slots.{slot, isFree, isLive, isDead}
 
 module _ (geo : Geometry) (image : Image) where
-  -- "A block is blank when all its slots are free, full when none is, open otherwise."
+  -- blank, full and open, by the free slots (FORMAT.md, Slots and blocks)
   unfoldable pub blank : ℕ → Bool
   blank b = allBelow (d geo) (λ i. isFree (slot geo image b i))
 
@@ -33,22 +33,23 @@ module _ (geo : Geometry) (image : Image) where
   abbrev pub tally : ℕ → Tally
   tally b = record { free = freeSlots b; live = liveSlots b; dead = deadSlots b }
 
-  -- "the lowest free slot" of a block; d where there is none
+  -- the free slot that rule 1 takes: the first of the block; d where there is none
   unfoldable pub lowestFree : ℕ → ℕ
   lowestFree b = firstBelow (d geo) (λ i. isFree (slot geo image b i))
 
-  -- "the lowest-numbered open block"; B where there is none
+  -- the open block that rule 1 takes: the first; B where there is none
   unfoldable pub lowestOpen : ℕ
   lowestOpen = firstBelow (geo .blocks) isOpen
 
-  -- "the blank block with the least erase count, lowest number on a tie"; B where there is none
+  -- the blank block that rule 2 takes: the least worn, the first among equals; B where there is none
   abbrev pub lessWorn : ℕ → ℕ → Bool
   lessWorn b r = ltb (eraseCount geo image b) (eraseCount geo image r)
 
   unfoldable pub leastWornBlank : ℕ
   leastWornBlank = bestBelow lessWorn (geo .blocks) blank
 
-  -- "the full block with most dead slots; ties go to the least erase count, then the lowest number"; B where there is none
+  -- the victim of rule 3: of the full blocks the one with most dead slots, the least worn among equals, and the first of those; B where
+  -- there is none
   abbrev pub preferred : ℕ → ℕ → Bool
   preferred b r = ltb (deadSlots r) (deadSlots b) || eqb (deadSlots r) (deadSlots b) && lessWorn b r
 

@@ -1,4 +1,4 @@
--- What an entry says of its slot, and where a logical number is live.
+-- What an entry says of its slot (FORMAT.md, Entries), and where a logical number is live (FORMAT.md, The map).
 use mathlib.Core.Bool.{Bool, true, false, not, cond, _&&_}
 use mathlib.Core.List.{List}
 use mathlib.Core.Option.{Option, some, none}
@@ -14,7 +14,7 @@ use Rattle.image.specs.declared.Found.{Found}
 use Rattle.image.specs.declared.Found.the-variants.{At, Nothing}
 use Rattle.image.specs.Words.{Image, entry, contents}
 
--- "31 valid, 30 clear when obsolete or becoming so, 29 clear when the entry's write is complete"
+-- the three bits of an entry above its number: 31 valid, 30 current, 29 unfinished
 abbrev pub validBit : ℕ
 validBit = 31
 
@@ -24,27 +24,27 @@ currentBit = 30
 abbrev pub unfinishedBit : ℕ
 unfinishedBit = 29
 
--- "0 to 28 the logical number"
+-- the logical number: the bits below those three
 abbrev pub numberIn : ℕ → ℕ
 numberIn e = e % 2 ^ 29
 
--- "0xFFFFFFFF is a free entry."
+-- free: every bit is set
 abbrev pub isFreeEntry : ℕ → Bool
 isFreeEntry e = eqb e ones
 
--- "bits 31 and 30 are set, bit 29 is clear"
+-- valid, current and finished: live or faulty, by its number
 unfoldable pub isComplete : ℕ → Bool
 isComplete e = isSet e validBit && isSet e currentBit && not (isSet e unfinishedBit)
 
--- "An entry is live when bits 31 and 30 are set, bit 29 is clear and its number is below L. Every other entry that is not
--- free is dead, except one with 31 and 30 set, 29 clear and a number of L or more, which is a fault of the image."
+-- The four kinds, with l logical sectors: free; live for its number, if that is below l, and faulty if it is not; dead in all other
+-- cases, be it replaced, released or unfinished.
 unfoldable pub slotOf : ℕ → ℕ → Slot
 slotOf l e =
     cond (isFreeEntry e) Free
     (cond (isComplete e) (cond (ltb (numberIn e) l) (Live (numberIn e)) Faulty)
     Dead)
 
--- slot i of block b. "A slot is free when its entry is free."
+-- slot i of block b is what its entry is
 unfoldable pub slot : Geometry → Image → ℕ → ℕ → Slot
 slot geo image b i = slotOf (geo .logical) (entry geo image b i)
 
@@ -80,7 +80,7 @@ isLiveWith f (Live n) = f n
 isLiveWith f Dead = false
 isLiveWith f Faulty = false
 
--- "live for n"
+-- live, and its number is n
 abbrev pub isLiveFor : ℕ → Slot → Bool
 isLiveFor n = isLiveWith (λ m. eqb m n)
 
@@ -97,7 +97,7 @@ module _ (geo : Geometry) (image : Image) where
   abbrev pub foundIn : ℕ → ℕ → Found
   foundIn n b = At b (firstBelow (d geo) (λ i. isLiveFor n (slot geo image b i)))
 
-  -- "the one slot, in any block, whose entry is live for n": the first, which R5 makes the one
+  -- where n is live: the first such slot in the order of blocks and slots. By R5 there is no other.
   unfoldable pub find : ℕ → Found
   find n =
       cond (anyBelow (geo .blocks) (λ b. liveIn b n))
@@ -109,7 +109,7 @@ module _ (geo : Geometry) (image : Image) where
   kept (At b i) = some (contents geo image b i)
   kept Nothing = none
 
-  -- "The map of an image sends n to the contents of the one slot, in any block, whose entry is live for n."
+  -- the map (FORMAT.md, The map): the contents of the slot that is live for n, or nothing
   abbrev pub mapOf : ℕ → Option (List ℕ)
   mapOf n = kept (find n)
 

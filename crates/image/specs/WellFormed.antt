@@ -1,4 +1,4 @@
--- "Well-formed images": R1 to R5 and R7 as tests of one block, R6 of the image.
+-- R1 to R5 and R7 as tests of one block, R6 of the image (FORMAT.md, Rules of a well-formed image).
 use mathlib.Core.Bool.{Bool, true, not, cond, Bool·beq, _&&_, _||_}
 use mathlib.Core.List.{List}
 use mathlib.Core.Path.{_≡_}
@@ -13,20 +13,20 @@ use Rattle.image.specs.Words.{Image, eraseCount, leastMapped, greatestMa
 use Rattle.image.specs.Slots.{slot, isFreeEntry, isFree, isFaulty, isLiveWith, isLiveFor, liveIn}
 use Rattle.image.specs.Blocks.{blank, full}
 
--- "1,000,000, the ceiling"
+-- the ceiling: the highest erase count that a block can have
 abbrev pub ceiling : ℕ
 ceiling = 1_000_000
 
--- "all 128 content words .. are ones"
+-- a sector as an erasure leaves it
 abbrev pub allOnes : List ℕ → Bool
 allOnes ws = allBelow sectorWords (λ j. eqb (getD ws j 0) ones)
 
 module _ (geo : Geometry) (image : Image) where
-  -- "R1: each erase count is at most 1,000,000, the ceiling."
+  -- R1: the erase count is not above the ceiling
   unfoldable pub R1 : ℕ → Bool
   R1 b = leb (eraseCount geo image b) ceiling
 
-  -- "R2: a free-map bit is set exactly when that slot's entry is free. Map bits from d on are ones."
+  -- R2: the map has a bit set for each free entry and for no other, and those that belong to no slot are set
   abbrev pub mapAgrees : ℕ → Bool
   mapAgrees b = allBelow (d geo) (λ i. Bool·beq (mapBit geo image b i) (isFreeEntry (entry geo image b i)))
 
@@ -36,26 +36,26 @@ module _ (geo : Geometry) (image : Image) where
   unfoldable pub R2 : ℕ → Bool
   R2 b = mapAgrees b && restSet b
 
-  -- "R3: all 128 content words of a free slot are ones."
+  -- R3: the contents of a free slot are as an erasure leaves them, so that any contents can be programmed there
   unfoldable pub R3 : ℕ → Bool
   R3 b = allBelow (d geo) (λ i. isFree (slot geo image b i) implies allOnes (contents geo image b i))
 
-  -- "R4: no entry is a fault as above."
+  -- R4: no slot is faulty
   unfoldable pub R4 : ℕ → Bool
   R4 b = allBelow (d geo) (λ i. not (isFaulty (slot geo image b i)))
 
-  -- "R5: no logical number is live in two slots of the image.": none of block b is live in an earlier slot
+  -- R5, of block b: none of its numbers is live in an earlier slot of the block, or in an earlier block
   abbrev pub liveBefore : ℕ → ℕ → ℕ → Bool
   liveBefore b i n = anyBelow b (λ c. liveIn geo image c n) || anyBelow i (λ j. isLiveFor n (slot geo image b j))
 
   unfoldable pub R5 : ℕ → Bool
   R5 b = allBelow (d geo) (λ i. not (isLiveWith (liveBefore b i) (slot geo image b i)))
 
-  -- "R6: at least one block is blank."
+  -- R6: some block is blank, so that a reclaim has where to copy to
   unfoldable pub R6 : Bool
   R6 = anyBelow (geo .blocks) (blank geo image)
 
-  -- "R7: in a block with a free slot, words 1 and 2 are all ones. In a full block, word 1 ≤ every live number ≤ word 2."
+  -- R7: words 1 and 2 are not programmed while a slot is free, and in a full block they bound its live numbers
   abbrev pub boundsBlank : ℕ → Bool
   boundsBlank b = eqb (leastMapped geo image b) ones && eqb (greatestMapped geo image b) ones
 
@@ -75,7 +75,7 @@ module _ (geo : Geometry) (image : Image) where
   unfoldable pub sound : Bool
   sound = allBelow (geo .blocks) soundBlock
 
-  -- "Well-formed images": R1 to R7
+  -- well formed: all seven rules
   unfoldable pub wellFormed : Bool
   wellFormed = sound && R6
 

@@ -1,4 +1,5 @@
--- "One block, in words": what the words of an image hold. Everything above reads an image through these names alone.
+-- What the words of an image hold (FORMAT.md, A block in words). Everything above reads an image through these names alone: so no unused
+-- word is looked at.
 use mathlib.Core.Bool.{Bool}
 use mathlib.Core.List.{List}
 use mathlib.Core.Path.{_≡_}
@@ -9,7 +10,7 @@ use Rattle.geometry.specs.declared.Geometry.{Geometry}
 use Rattle.geometry.specs.Geometry.{Limits, imageLength, sectorWords}
 use Rattle.geometry.specs.Places.{place, eraseWord, leastWord, greatestWord, mapWord, entryWord, contentWord}
 
--- "a lent image of 32-bit words"
+-- an image: its words, in order
 abbrev pub Image : Type 0
 Image = List ℕ
 
@@ -26,15 +27,15 @@ abbrev pub word : Image → ℕ → ℕ
 word image p = getD image p 0
 
 module _ (geo : Geometry) (image : Image) where
-  -- "0 | erase count"
+  -- word 0 of a block: how often it was erased
   unfoldable pub eraseCount : ℕ → ℕ
   eraseCount b = word image (place geo b eraseWord)
 
-  -- "1 | minimum mapped sector"
+  -- word 1: in a full block no live number is below it (R7)
   unfoldable pub leastMapped : ℕ → ℕ
   leastMapped b = word image (place geo b leastWord)
 
-  -- "2 | maximum mapped sector"
+  -- word 2: in a full block no live number is above it (R7)
   unfoldable pub greatestMapped : ℕ → ℕ
   greatestMapped b = word image (place geo b greatestWord)
 
@@ -42,14 +43,14 @@ module _ (geo : Geometry) (image : Image) where
   unfoldable pub freeMap : ℕ → ℕ → ℕ
   freeMap b i = word image (place geo b (mapWord i))
 
-  -- "free map: slot i is bit i mod 32 of word 3 + i/32, set while free"
+  -- the map bit of slot i of block b (R2 says what it means)
   abbrev pub mapBit : ℕ → ℕ → Bool
   mapBit b i = isSet (freeMap b i) (i % 32)
 
-  -- "mapping entries, slot 0 first"
+  -- the entry of slot i of block b
   unfoldable pub entry : ℕ → ℕ → ℕ
   entry b i = word image (place geo b (entryWord geo i))
 
-  -- "contents of slot i": the 128 words
+  -- the 128 words of contents of slot i of block b
   unfoldable pub contents : ℕ → ℕ → List ℕ
   contents b i = take sectorWords (drop (place geo b (contentWord geo i 0)) image)

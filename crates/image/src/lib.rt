@@ -10,7 +10,7 @@ pub enum Slot {
     Faulty,
 }
 
-// The slot, in any block, whose entry is live for a number: block and slot, or that there is none.
+// Where a number is live: block and slot, or that it is live nowhere.
 pub enum Found {
     At(usize, usize),
     Nothing,

@@ -36,7 +36,7 @@ pub fn slot_at(image: &[u32], geo: Geometry, b: usize, i: usize) -> Slot
     slot_of(geo.logical, image[at])
 }
 
-// The slot, in any block, whose entry is live for n: the first in the order of blocks and slots, which R5 makes the one.
+// Where n is live: the first such slot in the order of blocks and slots. By R5 there is no other.
 pub fn find(image: &[u32], geo: Geometry, n: u32) -> Found
     requires { ⌜ Shaped geo (now image) ⌝ }
     requires { ⌜ n < geo .logical ⌝ }

@@ -77,7 +77,7 @@ pub live-number : (geo : Geometry) (image : Image) (b i n : ℕ) → slot geo im
 unfolding slot
 live-number geo image b i n e = live-parts (geo .logical) (entry geo image b i) n e .2
 
--- "Placing costs 131 words, 2 more for a replacement, 2 more if the block fills."
+-- a placing programs at most 135 words (FORMAT.md, Costs)
 pub placing-most : (geo : Geometry) (image : Image) (n : ℕ) (ws : List ℕ) (b i : ℕ) → wordsIn (placing geo image n ws b i) ≤ 135
 placing-most geo image n ws b i =
     omega (

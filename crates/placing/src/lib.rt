@@ -60,7 +60,7 @@ fn program_entry(image: &mut [u32], geo: Geometry, found: Found, asked: u32) -> 
     }
 }
 
-// (c): the content words, ascending.
+// (c): the contents, from the first word on.
 fn store_contents(image: &mut [u32], geo: Geometry, b: usize, i: usize, words: &[u32])
     requires { ⌜ Shaped geo (now image) ⌝ }
     requires { ⌜ b < geo .blocks ⌝ }

@@ -29,7 +29,7 @@ pub fn all_ones(sector: &[u32]) -> bool
     all == 0xFFFF_FFFF
 }
 
-// R1: the erase count is at most the ceiling.
+// R1: the erase count is not above the ceiling.
 fn rule1(image: &[u32], geo: Geometry, b: usize) -> bool
     requires { ⌜ Shaped geo (now image) ⌝ }
     requires { ⌜ b < geo .blocks ⌝ }
@@ -38,7 +38,7 @@ fn rule1(image: &[u32], geo: Geometry, b: usize) -> bool
     erase_count(image, geo, b) <= 1_000_000
 }
 
-// R2, of the slots: a map bit is set exactly when the slot's entry is free.
+// R2, of the slots: the map has a bit set for each free entry and for no other.
 fn map_agrees(image: &[u32], geo: Geometry, b: usize) -> bool
     requires { ⌜ Shaped geo (now image) ⌝ }
     requires { ⌜ b < geo .blocks ⌝ }
@@ -57,7 +57,7 @@ fn map_agrees(image: &[u32], geo: Geometry, b: usize) -> bool
     true
 }
 
-// R2, of the rest: map bits from d on are ones.
+// R2, of the rest: the map bits that belong to no slot are set.
 fn rest_set(image: &[u32], geo: Geometry, b: usize) -> bool
     requires { ⌜ Shaped geo (now image) ⌝ }
     requires { ⌜ b < geo .blocks ⌝ }
@@ -98,7 +98,7 @@ fn contents_clean(image: &[u32], geo: Geometry, b: usize, i: usize) -> bool
     all_ones(&image[from..to])
 }
 
-// R3: all content words of a free slot are ones.
+// R3: the contents of every free slot are ones.
 fn rule3(image: &[u32], geo: Geometry, b: usize) -> bool
     requires { ⌜ Shaped geo (now image) ⌝ }
     requires { ⌜ b < geo .blocks ⌝ }
@@ -116,7 +116,7 @@ fn rule3(image: &[u32], geo: Geometry, b: usize) -> bool
     true
 }
 
-// R4: no entry is a fault.
+// R4: no slot is faulty.
 fn rule4(image: &[u32], geo: Geometry, b: usize) -> bool
     requires { ⌜ Shaped geo (now image) ⌝ }
     requires { ⌜ b < geo .blocks ⌝ }

@@ -19,7 +19,7 @@ use flash::Plan;
 use geometry::Geometry;
 use placing::place;
 
-// Rule 3: none open, one blank.
+// Whether rule 3 applies: no block is open, and a single one is blank.
 fn must_reclaim(image: &[u32], geo: Geometry) -> bool
     requires { ⌜ Shaped geo (now image) ⌝ }
     requires { ⌜ MapsAgree geo (now image) ⌝ }
@@ -49,8 +49,8 @@ pub fn plan(image: &[u32], geo: Geometry) -> Plan
     Plan::Reclaim(v)
 }
 
-// Rules 1 and 2: places n in the lowest free slot of the lowest-numbered open block or, if none is open, in slot 0 of the least worn
-// blank block. Returns how many words were programmed.
+// Rules 1 and 2: places n in the first free slot of the first open block or, if none is open, in slot 0 of the least worn blank block.
+// Returns how many words were programmed.
 pub fn fill(image: &mut [u32], geo: Geometry, n: u32, words: &[u32]) -> u32
     requires { ⌜ Shaped geo (now image) ⌝ }
     requires { ⌜ MapsAgree geo (now image) ⌝ }

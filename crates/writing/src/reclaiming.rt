@@ -16,7 +16,7 @@ use image::slots::copy_contents;
 use image::slots::slot_at;
 use placing::place_over;
 
-// Places the live slots of block v, in slot order, in slots 0, 1, 2 and on of block t. The number of a slot is found in that slot when
+// Goes through the slots of block v and places the live ones in slots 0, 1, .. of block t. The number of a slot is found in that slot when
 // its turn comes, so it is not looked up again. Returns how many words were programmed.
 fn copy_live(image: &mut [u32], geo: Geometry, v: usize, t: usize) -> u32
     requires { ⌜ Shaped geo (now image) ⌝ }
