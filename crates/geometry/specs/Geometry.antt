@@ -1,7 +1,9 @@
 -- "Geometry". "Three numbers are given: blocks B .., sectors per block S .., logical sectors L. Everything else is worked out from the three".
 use mathlib.Core.Bool.{Bool, _&&_}
+use mathlib.Core.List.{List}
 use Prim.Native.Nat.{ℕ, _+_, _*_, _-_, _/_, _≤_, _<_}
 use lib.Dec.{leb, ltb}
+use lib.ListN.{replicate}
 use Rattle.geometry.specs.declared.Geometry.{Geometry}
 
 -- a / b "rounded up"
@@ -11,6 +13,10 @@ roundedUp a b = (a + (b - 1)) / b
 -- "A sector is 128 words (512 bytes)."
 abbrev pub sectorWords : ℕ
 sectorWords = 128
+
+-- a sector that holds one word over and over
+abbrev pub filled : ℕ → List ℕ
+filled word = replicate sectorWords word
 
 -- the sectors at the start of each block that hold its management words
 abbrev pub managementSectors : Geometry → ℕ
@@ -38,6 +44,10 @@ room geo = (geo .blocks - 1) * d geo
 -- "g = ((B − 1)·d − L) / (B − 1) rounded up"
 unfoldable pub g : Geometry → ℕ
 g geo = roundedUp (room geo - geo .logical) (geo .blocks - 1)
+
+-- the geometry of b blocks of s sectors with l logical sectors, whether within the limits or not
+abbrev pub shape : ℕ → ℕ → ℕ → Geometry
+shape b s l = record { blocks = b; sectors = s; logical = l }
 
 -- "blocks B from 2 to 64, sectors per block S from 2 to 64 .. L runs from 1 to (B − 1)·d − 1"
 unfoldable pub withinLimits : Geometry → Bool

@@ -3,9 +3,9 @@ use mathlib.Core.Bool.{cond}
 use mathlib.Core.List.{List}
 use Prim.Native.Nat.{ℕ, _+_, _*_}
 use lib.Dec.{eqb}
-use lib.ListN.{getD, replicate}
+use lib.ListN.{getD}
 use Rattle.geometry.specs.declared.Geometry.{Geometry}
-use Rattle.geometry.specs.Geometry.{sectorWords}
+use Rattle.geometry.specs.Geometry.{shape, filled}
 use Rattle.image.specs.Words.{Image}
 use Rattle.shellwaltz.specs.Refusals.{numberOf, readAnswer}
 use Rattle.shellwaltz.specs.Calls.{readBuffer, writeOutcome, written, releaseOutcome, released}
@@ -15,7 +15,7 @@ use Rattle.script.specs.declared.record.Record.{Record}
 
 -- "It formats 8 blocks of 16 sectors with L = 90."
 abbrev pub scriptGeometry : Geometry
-scriptGeometry = record { blocks = 8; sectors = 16; logical = 90 }
+scriptGeometry = shape 8 16 90
 
 -- "three little-endian 32-bit numbers"
 abbrev pub littleEndian : ℕ → ℕ → ℕ → ℕ → ℕ
@@ -28,10 +28,6 @@ numberAt bytes at = littleEndian (getD bytes at 0) (getD bytes (at + 1) 0) (getD
 -- "Records of 12 bytes, no header: .. operation (1 write, 2 read, 3 release), logical number, fill."
 abbrev pub recordOf : List ℕ → Record
 recordOf bytes = record { operation = numberAt bytes 0; number = numberAt bytes 4; fill = numberAt bytes 8 }
-
--- "A write fills its buffer with the fill word."
-abbrev pub filled : ℕ → List ℕ
-filled fill = replicate sectorWords fill
 
 -- "Each record gives a line: letter W, R or D, number, answer, words, erasures, first word read (0 if none)". W is 87, R 82 and D 68.
 abbrev pub outcomeLine : ℕ → ℕ → Outcome → Line
@@ -46,6 +42,7 @@ outcomeLine letter number done =
     }
 
 module _ (image : Image) (number : ℕ) where
+  -- "A write fills its buffer with the fill word."
   abbrev pub writeLine : ℕ → Line
   writeLine fill = outcomeLine 87 number (writeOutcome scriptGeometry image number (filled fill))
 

@@ -1,8 +1,9 @@
 // A record of a script: what its bytes say, and what it does to the image.
 ghost use mathlib.Core.Path.{_≡_};
 ghost use Prim.Native.Nat.{_+_, _≤_};
+ghost use Rattle.geometry.specs.Geometry.{filled};
 ghost use Rattle.shellwaltz.specs.Calls.{written, released};
-ghost use Rattle.script.specs.Records.{scriptGeometry, littleEndian, numberAt, recordOf, filled, outcomeLine, writeLine, readLine, releaseLine, otherLine, lineOf, imageAfter};
+ghost use Rattle.script.specs.Records.{scriptGeometry, littleEndian, numberAt, recordOf, outcomeLine, writeLine, readLine, releaseLine, otherLine, lineOf, imageAfter};
 use geometry::Geometry;
 use shellwaltz::Outcome;
 
