@@ -1,6 +1,6 @@
 // The calls for C: plain numbers, an image or a buffer as a pointer and a length in words, counts through pointers, and the
-// paper's number as the answer. include/shellwaltz.h is their header. Each contract is that of the call it passes on to, for
-// any three 32-bit numbers as geometry.
+// answer's number in the table of refusals (FORMAT.md, Refusals). include/shellwaltz.h is their header. Each contract is that of
+// the call it passes on to, for any three 32-bit numbers as geometry.
 ghost use mathlib.Core.Path.{_≡_};
 ghost use Rattle.geometry.specs.Geometry.{shape};
 ghost use Rattle.shellwaltz.specs.Refusals.{numberOf, checkAnswer, readAnswer};
