@@ -1,7 +1,9 @@
 -- The numbers of a geometry: what follows from the three that are handed in, and their limits (FORMAT.md, Geometry).
 use mathlib.Core.Bool.{Bool, _&&_}
+use mathlib.Core.List.{List}
 use Prim.Native.Nat.{ℕ, _+_, _*_, _-_, _/_, _≤_, _<_}
 use lib.Dec.{leb, ltb}
+use lib.ListN.{replicate}
 use Rattle.geometry.specs.declared.Geometry.{Geometry}
 
 -- a / b, rounded up
@@ -11,6 +13,10 @@ roundedUp a b = (a + (b - 1)) / b
 -- the words of a sector
 abbrev pub sectorWords : ℕ
 sectorWords = 128
+
+-- a sector that holds one word over and over
+abbrev pub filled : ℕ → List ℕ
+filled word = replicate sectorWords word
 
 -- the sectors at the start of each block that hold its management words
 abbrev pub managementSectors : Geometry → ℕ
@@ -38,6 +44,10 @@ room geo = (geo .blocks - 1) * d geo
 -- g: the room that the logical sectors leave, shared out over all blocks but one; a victim has at least so many dead slots
 unfoldable pub g : Geometry → ℕ
 g geo = roundedUp (room geo - geo .logical) (geo .blocks - 1)
+
+-- the geometry of b blocks of s sectors with l logical sectors, whether within the limits or not
+abbrev pub shape : ℕ → ℕ → ℕ → Geometry
+shape b s l = record { blocks = b; sectors = s; logical = l }
 
 -- the limits of B, S and L: what refusal 1 tests, beside the length
 unfoldable pub withinLimits : Geometry → Bool

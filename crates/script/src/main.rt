@@ -1,11 +1,8 @@
 // Runs a script: records of 12 bytes from standard input over a fresh image of 8 blocks of 16 sectors with L = 90, a line for each
 // on standard output, and the image's totals at the end.
-mod record;
-
-use geometry::Geometry;
 use libc::STDIN_FILENO;
 use libc::STDOUT_FILENO;
-use record::Line;
+use records::Line;
 
 fn text(bytes: &[u8]) {
     io::write_all(STDOUT_FILENO, bytes);
@@ -29,7 +26,7 @@ fn print_line(line: Line) {
 }
 
 fn print_totals(image: &[u32]) {
-    let totals = shellwaltz::report(image, record::script_geometry());
+    let totals = shellwaltz::report(image, records::script_geometry());
     text(b"T");
     and(totals.mapped);
     and(totals.free);
@@ -46,10 +43,10 @@ fn step(image: &mut [u32]) -> bool {
         return false;
     }
     if got < 12 {
-        print_line(record::other(0, 8));
+        print_line(records::other(0, 8));
         return false;
     }
-    print_line(record::carry_out(image, record::record_of(&bytes)));
+    print_line(records::carry_out(image, records::record_of(&bytes)));
     true
 }
 
@@ -63,7 +60,7 @@ fn run(image: &mut [u32]) {
 
 fn main() {
     let mut image = [0u32; 16384];
-    shellwaltz::format(&mut image, record::script_geometry());
+    shellwaltz::format(&mut image, records::script_geometry());
     run(&mut image);
     print_totals(&image);
 }

@@ -7,7 +7,7 @@ use Prim.Native.Nat.{ℕ, _<_}
 use native.Mathlib.Decide.{decLt}
 use native.Mathlib.Omega.{arith}
 use Rattle.geometry.specs.declared.Geometry.{Geometry}
-use Rattle.geometry.specs.Geometry.{withinLimits, Limits}
+use Rattle.geometry.specs.Geometry.{shape, withinLimits, Limits}
 use Rattle.geometry.proofs.Laws.{limits-hold}
 use Rattle.image.specs.Words.{Image}
 use Rattle.flash.specs.Steps.{wordsIn, erasuresIn}
@@ -16,7 +16,7 @@ use Rattle.shellwaltz.specs.declared.Answer.the-variants.{BadGeometry}
 use Rattle.shellwaltz.specs.declared.Outcome.{Outcome}
 use Rattle.shellwaltz.specs.Refusals.{numberOf, formatAnswer, checkAnswer, readAnswer, writeAnswer, releaseAnswer}
 use Rattle.shellwaltz.specs.Calls.{formatOutcome, formatted, noTotals, reported, readBuffer, outcome, writeSteps, writeOutcome, written, releaseSteps, releaseOutcome, released}
-use Rattle.shellwaltz_c.specs.Plain.{of, narrowed}
+use Rattle.shellwaltz_c.specs.Plain.{narrowed}
 
 -- where one limit is broken, the test of all fails
 outside : (geo : Geometry) → (Limits geo → ⊥) → withinLimits geo ≡ false
@@ -31,43 +31,43 @@ narrowing {ℓ} :
     {A : Type ℓ} (gives : Geometry → A) (refused : A) →
     ((geo : Geometry) → withinLimits geo ≡ false → gives geo ≡ refused) →
     {geo : Geometry} (b s l : ℕ) →
-    geo ≡ of (narrowed b) (narrowed s) l →
-    gives geo ≡ gives (of b s l)
+    geo ≡ shape (narrowed b) (narrowed s) l →
+    gives geo ≡ gives (shape b s l)
 narrowing gives refused out b s l e = ap gives e ∙ go (decLt b 65536) (decLt s 65536)
   where
-    go : Dec (b < 65536) → Dec (s < 65536) → gives (of (narrowed b) (narrowed s) l) ≡ gives (of b s l)
+    go : Dec (b < 65536) → Dec (s < 65536) → gives (shape (narrowed b) (narrowed s) l) ≡ gives (shape b s l)
     go (yes p) (yes q) =
         let same-b : narrowed b ≡ b = omega arith in
         let same-s : narrowed s ≡ s = omega arith in
         rw (same-b, same-s)
     go (no p) y =
-        out (of (narrowed b) (narrowed s) l) (outside _ (λ lim. omega (arith, lim .blocks-high)))
-        ∙ sym (out (of b s l) (outside _ (λ lim. omega (arith, lim .blocks-high))))
+        out (shape (narrowed b) (narrowed s) l) (outside _ (λ lim. omega (arith, lim .blocks-high)))
+        ∙ sym (out (shape b s l) (outside _ (λ lim. omega (arith, lim .blocks-high))))
     go (yes p) (no q) =
-        out (of (narrowed b) (narrowed s) l) (outside _ (λ lim. omega (arith, lim .sectors-high)))
-        ∙ sym (out (of b s l) (outside _ (λ lim. omega (arith, lim .sectors-high))))
+        out (shape (narrowed b) (narrowed s) l) (outside _ (λ lim. omega (arith, lim .sectors-high)))
+        ∙ sym (out (shape b s l) (outside _ (λ lim. omega (arith, lim .sectors-high))))
 
 -- ---- so what each call answers and leaves is what it answers and leaves for the numbers that were handed in
-module _ {geo : Geometry} (b s l : ℕ) (e : geo ≡ of (narrowed b) (narrowed s) l) (image : Image) where
-  pub format-same : (formatOutcome geo image ≡ formatOutcome (of b s l) image) × (formatted geo image ≡ formatted (of b s l) image)
+module _ {geo : Geometry} (b s l : ℕ) (e : geo ≡ shape (narrowed b) (narrowed s) l) (image : Image) where
+  pub format-same : (formatOutcome geo image ≡ formatOutcome (shape b s l) image) × (formatted geo image ≡ formatted (shape b s l) image)
   unfolding formatAnswer formatted wordsIn erasuresIn
   format-same = (
     narrowing (λ x. formatOutcome x image) (outcome BadGeometry []) (λ x out. rw out) b s l e,
     narrowing (λ x. formatted x image) image (λ x out. rw out) b s l e,
   )
 
-  pub check-same : checkAnswer geo image ≡ checkAnswer (of b s l) image
+  pub check-same : checkAnswer geo image ≡ checkAnswer (shape b s l) image
   unfolding checkAnswer
   check-same = narrowing (λ x. checkAnswer x image) BadGeometry (λ x out. rw out) b s l e
 
-  pub report-same : reported geo image ≡ reported (of b s l) image
+  pub report-same : reported geo image ≡ reported (shape b s l) image
   unfolding checkAnswer reported
   report-same = narrowing (λ x. reported x image) (noTotals geo image BadGeometry) (λ x out. rw out) b s l e
 
   pub read-same :
       (n : ℕ) (buffer : List ℕ) →
-      (readAnswer geo image n buffer ≡ readAnswer (of b s l) image n buffer)
-      × (readBuffer geo image n buffer ≡ readBuffer (of b s l) image n buffer)
+      (readAnswer geo image n buffer ≡ readAnswer (shape b s l) image n buffer)
+      × (readBuffer geo image n buffer ≡ readBuffer (shape b s l) image n buffer)
   unfolding readAnswer readBuffer
   read-same n buffer = (
     narrowing (λ x. readAnswer x image n buffer) BadGeometry (λ x out. rw out) b s l e,
@@ -76,8 +76,8 @@ module _ {geo : Geometry} (b s l : ℕ) (e : geo ≡ of (narrowed b) (narrowed s
 
   pub write-same :
       (n : ℕ) (buffer : List ℕ) →
-      (writeOutcome geo image n buffer ≡ writeOutcome (of b s l) image n buffer)
-      × (written geo image n buffer ≡ written (of b s l) image n buffer)
+      (writeOutcome geo image n buffer ≡ writeOutcome (shape b s l) image n buffer)
+      × (written geo image n buffer ≡ written (shape b s l) image n buffer)
   unfolding writeAnswer writeSteps
   write-same n buffer = (
     narrowing (λ x. writeOutcome x image n buffer) (outcome BadGeometry []) (λ x out. rw out) b s l e,
@@ -86,7 +86,7 @@ module _ {geo : Geometry} (b s l : ℕ) (e : geo ≡ of (narrowed b) (narrowed s
 
   pub release-same :
       (n : ℕ) →
-      (releaseOutcome geo image n ≡ releaseOutcome (of b s l) image n) × (released geo image n ≡ released (of b s l) image n)
+      (releaseOutcome geo image n ≡ releaseOutcome (shape b s l) image n) × (released geo image n ≡ released (shape b s l) image n)
   unfolding releaseAnswer releaseSteps
   release-same n = (
     narrowing (λ x. releaseOutcome x image n) (outcome BadGeometry []) (λ x out. rw out) b s l e,

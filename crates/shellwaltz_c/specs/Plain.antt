@@ -1,10 +1,5 @@
--- The geometry of three plain numbers, as a C program hands them in.
+-- What becomes of a number that a C program hands in.
 use Prim.Native.Nat.{ℕ, min}
-use Rattle.geometry.specs.declared.Geometry.{Geometry}
-
--- B blocks of S sectors, L logical sectors
-abbrev pub of : ℕ → ℕ → ℕ → Geometry
-of b s l = record { blocks = b; sectors = s; logical = l }
 
 -- the number that 16 bits hold for x: x, or 65,535 where it does not fit
 abbrev pub narrowed : ℕ → ℕ

@@ -1,10 +1,11 @@
 // The calls for C: plain numbers, an image or a buffer as a pointer and a length in words, counts through pointers, and the
-// paper's number as the answer. include/shellwaltz.h is their header. Each contract is that of the call it passes on to, for
-// any three 32-bit numbers as geometry.
+// answer's number in the table of refusals (FORMAT.md, Refusals). include/shellwaltz.h is their header. Each contract is that of
+// the call it passes on to, for any three 32-bit numbers as geometry.
 ghost use mathlib.Core.Path.{_≡_};
+ghost use Rattle.geometry.specs.Geometry.{shape};
 ghost use Rattle.shellwaltz.specs.Refusals.{numberOf, checkAnswer, readAnswer};
 ghost use Rattle.shellwaltz.specs.Calls.{formatted, formatOutcome, reported, readBuffer, writeOutcome, written, releaseOutcome, released};
-ghost use Rattle.shellwaltz_c.specs.Plain.{of, narrowed};
+ghost use Rattle.shellwaltz_c.specs.Plain.{narrowed};
 use geometry::Geometry;
 
 // A number of blocks or sectors in 16 bits: one that does not fit becomes the greatest that does, which breaks its limit as well.
@@ -16,7 +17,7 @@ fn narrow(x: u32) -> u16
 
 // The geometry that the Rattle calls take.
 fn geometry(blocks: u32, sectors: u32, logical: u32) -> Geometry
-    ensures { λ r. ⌜ r ≡ of (narrowed blocks) (narrowed sectors) logical ⌝ }
+    ensures { λ r. ⌜ r ≡ shape (narrowed blocks) (narrowed sectors) logical ⌝ }
 {
     Geometry {
         blocks: narrow(blocks),
@@ -35,10 +36,10 @@ pub extern "C" fn shellwaltz_format(
     words: &mut u32,
     erasures: &mut u32,
 ) -> u32
-    ensures { λ r. ⌜ r ≡ numberOf (formatOutcome (of blocks sectors logical) (now (image .entry)) .answer) ⌝ }
-    ensures { λ _. ⌜ now (words .exit) ≡ formatOutcome (of blocks sectors logical) (now (image .entry)) .words ⌝ }
-    ensures { λ _. ⌜ now (erasures .exit) ≡ formatOutcome (of blocks sectors logical) (now (image .entry)) .erasures ⌝ }
-    ensures { λ _. ⌜ now (image .exit) ≡ formatted (of blocks sectors logical) (now (image .entry)) ⌝ }
+    ensures { λ r. ⌜ r ≡ numberOf (formatOutcome (shape blocks sectors logical) (now (image .entry)) .answer) ⌝ }
+    ensures { λ _. ⌜ now (words .exit) ≡ formatOutcome (shape blocks sectors logical) (now (image .entry)) .words ⌝ }
+    ensures { λ _. ⌜ now (erasures .exit) ≡ formatOutcome (shape blocks sectors logical) (now (image .entry)) .erasures ⌝ }
+    ensures { λ _. ⌜ now (image .exit) ≡ formatted (shape blocks sectors logical) (now (image .entry)) ⌝ }
 {
     let made = shellwaltz::format(image, geometry(blocks, sectors, logical));
     *words = made.words;
@@ -50,7 +51,7 @@ pub extern "C" fn shellwaltz_format(
 // Whether the image is well formed. Refuses 1 and 4.
 #[no_mangle]
 pub extern "C" fn shellwaltz_check(blocks: u32, sectors: u32, logical: u32, image: &[u32]) -> u32
-    ensures { λ r. ⌜ r ≡ numberOf (checkAnswer (of blocks sectors logical) (now (image .entry))) ⌝ }
+    ensures { λ r. ⌜ r ≡ numberOf (checkAnswer (shape blocks sectors logical) (now (image .entry))) ⌝ }
 {
     shellwaltz::number(shellwaltz::check(image, geometry(blocks, sectors, logical)))
 }
@@ -67,11 +68,11 @@ pub extern "C" fn shellwaltz_report(
     dead: &mut u32,
     erase_sum: &mut u32,
 ) -> u32
-    ensures { λ r. ⌜ r ≡ numberOf (reported (of blocks sectors logical) (now (image .entry)) .answer) ⌝ }
-    ensures { λ _. ⌜ now (mapped .exit) ≡ reported (of blocks sectors logical) (now (image .entry)) .mapped ⌝ }
-    ensures { λ _. ⌜ now (free .exit) ≡ reported (of blocks sectors logical) (now (image .entry)) .free ⌝ }
-    ensures { λ _. ⌜ now (dead .exit) ≡ reported (of blocks sectors logical) (now (image .entry)) .dead ⌝ }
-    ensures { λ _. ⌜ now («erase_sum» .exit) ≡ reported (of blocks sectors logical) (now (image .entry)) .«erase_sum» ⌝ }
+    ensures { λ r. ⌜ r ≡ numberOf (reported (shape blocks sectors logical) (now (image .entry)) .answer) ⌝ }
+    ensures { λ _. ⌜ now (mapped .exit) ≡ reported (shape blocks sectors logical) (now (image .entry)) .mapped ⌝ }
+    ensures { λ _. ⌜ now (free .exit) ≡ reported (shape blocks sectors logical) (now (image .entry)) .free ⌝ }
+    ensures { λ _. ⌜ now (dead .exit) ≡ reported (shape blocks sectors logical) (now (image .entry)) .dead ⌝ }
+    ensures { λ _. ⌜ now («erase_sum» .exit) ≡ reported (shape blocks sectors logical) (now (image .entry)) .«erase_sum» ⌝ }
 {
     let totals = shellwaltz::report(image, geometry(blocks, sectors, logical));
     *mapped = totals.mapped;
@@ -92,8 +93,8 @@ pub extern "C" fn shellwaltz_read(
     number: u32,
     buffer: &mut [u32],
 ) -> u32
-    ensures { λ r. ⌜ r ≡ numberOf (readAnswer (of blocks sectors logical) (now (image .entry)) number (now (buffer .entry))) ⌝ }
-    ensures { λ _. ⌜ now (buffer .exit) ≡ readBuffer (of blocks sectors logical) (now (image .entry)) number (now (buffer .entry)) ⌝ }
+    ensures { λ r. ⌜ r ≡ numberOf (readAnswer (shape blocks sectors logical) (now (image .entry)) number (now (buffer .entry))) ⌝ }
+    ensures { λ _. ⌜ now (buffer .exit) ≡ readBuffer (shape blocks sectors logical) (now (image .entry)) number (now (buffer .entry)) ⌝ }
 {
     shellwaltz::number(shellwaltz::read(image, geometry(blocks, sectors, logical), number, buffer))
 }
@@ -110,10 +111,10 @@ pub extern "C" fn shellwaltz_write(
     words: &mut u32,
     erasures: &mut u32,
 ) -> u32
-    ensures { λ r. ⌜ r ≡ numberOf (writeOutcome (of blocks sectors logical) (now (image .entry)) number (now (buffer .entry)) .answer) ⌝ }
-    ensures { λ _. ⌜ now (words .exit) ≡ writeOutcome (of blocks sectors logical) (now (image .entry)) number (now (buffer .entry)) .words ⌝ }
-    ensures { λ _. ⌜ now (erasures .exit) ≡ writeOutcome (of blocks sectors logical) (now (image .entry)) number (now (buffer .entry)) .erasures ⌝ }
-    ensures { λ _. ⌜ now (image .exit) ≡ written (of blocks sectors logical) (now (image .entry)) number (now (buffer .entry)) ⌝ }
+    ensures { λ r. ⌜ r ≡ numberOf (writeOutcome (shape blocks sectors logical) (now (image .entry)) number (now (buffer .entry)) .answer) ⌝ }
+    ensures { λ _. ⌜ now (words .exit) ≡ writeOutcome (shape blocks sectors logical) (now (image .entry)) number (now (buffer .entry)) .words ⌝ }
+    ensures { λ _. ⌜ now (erasures .exit) ≡ writeOutcome (shape blocks sectors logical) (now (image .entry)) number (now (buffer .entry)) .erasures ⌝ }
+    ensures { λ _. ⌜ now (image .exit) ≡ written (shape blocks sectors logical) (now (image .entry)) number (now (buffer .entry)) ⌝ }
 {
     let wrote = shellwaltz::write(image, geometry(blocks, sectors, logical), number, buffer);
     *words = wrote.words;
@@ -133,10 +134,10 @@ pub extern "C" fn shellwaltz_release(
     words: &mut u32,
     erasures: &mut u32,
 ) -> u32
-    ensures { λ r. ⌜ r ≡ numberOf (releaseOutcome (of blocks sectors logical) (now (image .entry)) number .answer) ⌝ }
-    ensures { λ _. ⌜ now (words .exit) ≡ releaseOutcome (of blocks sectors logical) (now (image .entry)) number .words ⌝ }
-    ensures { λ _. ⌜ now (erasures .exit) ≡ releaseOutcome (of blocks sectors logical) (now (image .entry)) number .erasures ⌝ }
-    ensures { λ _. ⌜ now (image .exit) ≡ released (of blocks sectors logical) (now (image .entry)) number ⌝ }
+    ensures { λ r. ⌜ r ≡ numberOf (releaseOutcome (shape blocks sectors logical) (now (image .entry)) number .answer) ⌝ }
+    ensures { λ _. ⌜ now (words .exit) ≡ releaseOutcome (shape blocks sectors logical) (now (image .entry)) number .words ⌝ }
+    ensures { λ _. ⌜ now (erasures .exit) ≡ releaseOutcome (shape blocks sectors logical) (now (image .entry)) number .erasures ⌝ }
+    ensures { λ _. ⌜ now (image .exit) ≡ released (shape blocks sectors logical) (now (image .entry)) number ⌝ }
 {
     let freed = shellwaltz::release(image, geometry(blocks, sectors, logical), number);
     *words = freed.words;

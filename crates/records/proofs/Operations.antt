@@ -3,7 +3,7 @@ use mathlib.Core.Path.{_≡_}
 use mathlib.Core.Logic.{_≢_}
 use Prim.Native.Nat.{ℕ}
 use borrow.Author.Tests.{eq-eqb, ne-eqb}
-use Rattle.script.specs.Records.{byOperation}
+use Rattle.records.specs.Records.{byOperation}
 
 module _ {ℓ} {A : Type ℓ} (operation : ℕ) (write read release other : A) where
   pub is-write : operation ≡ 1 → byOperation operation write read release other ≡ write

@@ -1,8 +1,9 @@
-// A record of a script: what its bytes say, and what it does to the image.
+// A record of a script: what its bytes say, and what it does to the image. The program `script` reads records and prints their lines.
 ghost use mathlib.Core.Path.{_≡_};
 ghost use Prim.Native.Nat.{_+_, _≤_};
+ghost use Rattle.geometry.specs.Geometry.{filled};
 ghost use Rattle.shellwaltz.specs.Calls.{written, released};
-ghost use Rattle.script.specs.Records.{scriptGeometry, littleEndian, numberAt, recordOf, filled, outcomeLine, writeLine, readLine, releaseLine, otherLine, lineOf, imageAfter};
+ghost use Rattle.records.specs.Records.{scriptGeometry, littleEndian, numberAt, recordOf, outcomeLine, writeLine, readLine, releaseLine, otherLine, lineOf, imageAfter};
 use geometry::Geometry;
 use shellwaltz::Outcome;
 
@@ -23,6 +24,7 @@ pub struct Line {
     pub first: u32,
 }
 
+// The geometry of every script.
 pub fn script_geometry() -> Geometry
     ensures { λ r. ⌜ r ≡ scriptGeometry ⌝ }
 {
@@ -48,6 +50,7 @@ fn number_at(bytes: &[u8; 12], at: usize) -> u32
     little_endian(bytes[at], bytes[at + 1], bytes[at + 2], bytes[at + 3])
 }
 
+// What the bytes of a record say.
 pub fn record_of(bytes: &[u8; 12]) -> Record
     ensures { λ r. ⌜ r ≡ recordOf (now (bytes .entry)) ⌝ }
 {
@@ -58,7 +61,7 @@ pub fn record_of(bytes: &[u8; 12]) -> Record
     }
 }
 
-// The line of a record that is none of the three.
+// The line of a record that is no write, read or release.
 pub fn other(number: u32, answer: u32) -> Line
     ensures { λ r. ⌜ r ≡ otherLine number answer ⌝ }
 {

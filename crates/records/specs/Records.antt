@@ -1,39 +1,36 @@
--- "The script program": what a record says, the line that it gives, and the image that it leaves.
+-- FORMAT.md, The script program: what a record says, the line that it gives, and the image that it leaves.
 use mathlib.Core.Bool.{cond}
 use mathlib.Core.List.{List}
 use Prim.Native.Nat.{ℕ, _+_, _*_}
 use lib.Dec.{eqb}
-use lib.ListN.{getD, replicate}
+use lib.ListN.{getD}
 use Rattle.geometry.specs.declared.Geometry.{Geometry}
-use Rattle.geometry.specs.Geometry.{sectorWords}
+use Rattle.geometry.specs.Geometry.{shape, filled}
 use Rattle.image.specs.Words.{Image}
 use Rattle.shellwaltz.specs.Refusals.{numberOf, readAnswer}
 use Rattle.shellwaltz.specs.Calls.{readBuffer, writeOutcome, written, releaseOutcome, released}
 use Rattle.shellwaltz.specs.declared.Outcome.{Outcome}
-use Rattle.script.specs.declared.record.Line.{Line}
-use Rattle.script.specs.declared.record.Record.{Record}
+use Rattle.records.specs.declared.Line.{Line}
+use Rattle.records.specs.declared.Record.{Record}
 
--- "It formats 8 blocks of 16 sectors with L = 90."
+-- FORMAT.md, The script program: the image that a script starts from has 8 blocks of 16 sectors, and 90 logical sectors
 abbrev pub scriptGeometry : Geometry
-scriptGeometry = record { blocks = 8; sectors = 16; logical = 90 }
+scriptGeometry = shape 8 16 90
 
--- "three little-endian 32-bit numbers"
+-- the number of four bytes, the least significant first
 abbrev pub littleEndian : ℕ → ℕ → ℕ → ℕ → ℕ
 littleEndian a b c d = a + b * 256 + c * 65536 + d * 16777216
 
--- the one of the four bytes from `at` on
+-- that of the four bytes from `at` on
 abbrev pub numberAt : List ℕ → ℕ → ℕ
 numberAt bytes at = littleEndian (getD bytes at 0) (getD bytes (at + 1) 0) (getD bytes (at + 2) 0) (getD bytes (at + 3) 0)
 
--- "Records of 12 bytes, no header: .. operation (1 write, 2 read, 3 release), logical number, fill."
+-- FORMAT.md, The script program: the 12 bytes of a record are three such numbers, the operation, the logical number and the fill word
 abbrev pub recordOf : List ℕ → Record
 recordOf bytes = record { operation = numberAt bytes 0; number = numberAt bytes 4; fill = numberAt bytes 8 }
 
--- "A write fills its buffer with the fill word."
-abbrev pub filled : ℕ → List ℕ
-filled fill = replicate sectorWords fill
-
--- "Each record gives a line: letter W, R or D, number, answer, words, erasures, first word read (0 if none)". W is 87, R 82 and D 68.
+-- FORMAT.md, The script program: what a record's line shows. The letters are in ASCII: W is 87, R 82, D 68 and X 88.
+-- The line of a write or a release: it shows no word read.
 abbrev pub outcomeLine : ℕ → ℕ → Outcome → Line
 outcomeLine letter number done =
     record {
@@ -46,10 +43,11 @@ outcomeLine letter number done =
     }
 
 module _ (image : Image) (number : ℕ) where
+  -- the buffer of a write holds the fill word over and over
   abbrev pub writeLine : ℕ → Line
   writeLine fill = outcomeLine 87 number (writeOutcome scriptGeometry image number (filled fill))
 
-  -- a read is given a buffer of zeros
+  -- a read is given a buffer of zeros, so that a refused one shows 0
   abbrev pub readLine : Line
   readLine =
       record {
@@ -64,11 +62,12 @@ module _ (image : Image) (number : ℕ) where
   abbrev pub releaseLine : Line
   releaseLine = outcomeLine 68 number (releaseOutcome scriptGeometry image number)
 
--- "Another operation: letter X, the record's logical number field, answer 7, then 0 0 0". "A short last record: `X 0 8 0 0 0`." X is 88.
+-- FORMAT.md, The script program: the line of an operation that is none of the three, with its record's logical number and the answer 7; and of a
+-- last record that is cut short, with the number 0 and the answer 8
 abbrev pub otherLine : ℕ → ℕ → Line
 otherLine number answer = record { letter = 88; number = number; answer = answer; words = 0; erasures = 0; first = 0 }
 
--- "operation (1 write, 2 read, 3 release)": what it is, of four
+-- what an operation is, of four: 1 is a write, 2 a read, 3 a release
 abbrev pub byOperation {ℓ} : {A : Type ℓ} → ℕ → A → A → A → A → A
 byOperation operation write read release other =
     cond (eqb operation 1) write (cond (eqb operation 2) read (cond (eqb operation 3) release other))

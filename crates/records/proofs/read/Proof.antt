@@ -1,7 +1,7 @@
--- `script::record::read` meets its contract: the line is what the call answers and the first word of the buffer that it leaves.
+-- `records::read` meets its contract: the line is what the call answers and the first word of the buffer that it leaves.
 use borrow.Author.Needs.{needs}
-use Rattle.script.proofs.record.read.Statement.{statement}
-use Rattle.script.proofs.record.read.Tie as tie
+use Rattle.records.proofs.read.Statement.{statement}
+use Rattle.records.proofs.read.Tie as tie
 
 script-geometry-requires : tie.Need-script-geometry-requires
 script-geometry-requires c κs = search needs

@@ -1,10 +1,10 @@
--- `script::record::carry_out` meets its contract: the operation is asked for in the order of its numbers.
+-- `records::carry_out` meets its contract: the operation is asked for in the order of its numbers.
 use mathlib.Core.Path.{sym, _∙_}
 use borrow.Author.Needs.{needs}
-use Rattle.script.specs.Records.{lineOf, imageAfter}
-use Rattle.script.proofs.Operations.{is-write, is-read, is-release, is-other}
-use Rattle.script.proofs.record.carry_out.Statement.{statement}
-use Rattle.script.proofs.record.carry_out.Tie as tie
+use Rattle.records.specs.Records.{lineOf, imageAfter}
+use Rattle.records.proofs.Operations.{is-write, is-read, is-release, is-other}
+use Rattle.records.proofs.carry_out.Statement.{statement}
+use Rattle.records.proofs.carry_out.Tie as tie
 
 write-requires : tie.Need-write-requires
 write-requires c κs = search needs

@@ -1,8 +1,8 @@
--- `script::record::write` meets its contract: the line is that of what the call answers, and the image is what it leaves.
+-- `records::write` meets its contract: the line is that of what the call answers, and the image is what it leaves.
 use mathlib.Core.Path.{_∙_}
 use borrow.Author.Needs.{needs}
-use Rattle.script.proofs.record.write.Statement.{statement}
-use Rattle.script.proofs.record.write.Tie as tie
+use Rattle.records.proofs.write.Statement.{statement}
+use Rattle.records.proofs.write.Tie as tie
 
 script-geometry-requires : tie.Need-script-geometry-requires
 script-geometry-requires c κs = search needs

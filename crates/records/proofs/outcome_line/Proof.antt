@@ -1,7 +1,7 @@
--- `script::record::outcome_line` meets its contract: the answer by its number, the counts as they are.
+-- `records::outcome_line` meets its contract: the answer by its number, the counts as they are.
 use borrow.Author.Needs.{needs}
-use Rattle.script.proofs.record.outcome_line.Statement.{statement}
-use Rattle.script.proofs.record.outcome_line.Tie as tie
+use Rattle.records.proofs.outcome_line.Statement.{statement}
+use Rattle.records.proofs.outcome_line.Tie as tie
 
 number-requires : tie.Need-number-requires
 number-requires c κs = search needs

@@ -1,7 +1,7 @@
--- `script::record::record_of` meets its contract: its three numbers stand at bytes 0, 4 and 8.
+-- `records::record_of` meets its contract: its three numbers stand at bytes 0, 4 and 8.
 use borrow.Author.Needs.{needs}
-use Rattle.script.proofs.record.record_of.Statement.{statement}
-use Rattle.script.proofs.record.record_of.Tie as tie
+use Rattle.records.proofs.record_of.Statement.{statement}
+use Rattle.records.proofs.record_of.Tie as tie
 
 number-at-requires : tie.Need-number-at-requires
 number-at-requires c κs = search needs
