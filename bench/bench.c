@@ -1,4 +1,4 @@
-/* Times of the linked library, beside the second implementation and beside the floor, and the stack that each call uses.
+/* Times of the linked library, beside the second implementation and beside the floor.
  *
  * The floor is what no program that keeps to docs/FORMAT.md can go below: one pass over just the words that the rules must look at, each
  * loaded once. A read adds the sector's words to it, a write those that it programs (and, with a reclaim, those that it erases).
@@ -10,19 +10,12 @@
 #include <stdlib.h>
 #include <string.h>
 #include <time.h>
-#include <ucontext.h>
 
-#include "../compare/layers.h"
+#include "images.h"
 
-enum { ROUNDS = 41, SECTOR = 128 };
+enum { ROUNDS = 41 };
 
 static volatile uint32_t sink; /* what a pass found, so that it is not left out */
-
-static void fail(const char *what)
-{
-    fprintf(stderr, "bench: %s\n", what);
-    exit(1);
-}
 
 /* Eight sums side by side, so that no load waits for the one before it. */
 static uint32_t all_of(const uint32_t *contents)
@@ -143,40 +136,6 @@ static double least_time(struct state *s, enum what what)
     return (double)least / calls;
 }
 
-/* An image that is half full: half of the numbers are written by turns until half of the slots are used. */
-static void fill_half(struct geometry g, uint32_t *image)
-{
-    uint32_t words, erasures, buffer[SECTOR];
-    size_t n = words_of(g);
-    uint32_t slots = g.blocks * (g.sectors - 1), numbers = (g.logical + 1) / 2;
-    if (shellwaltz_format(g.blocks, g.sectors, g.logical, image, n, &words, &erasures) != 0)
-        fail("format was refused");
-    for (uint32_t i = 0; i < slots / 2; i++) {
-        for (uint32_t j = 0; j < SECTOR; j++)
-            buffer[j] = i * 2654435761u + j;
-        if (shellwaltz_write(g.blocks, g.sectors, g.logical, image, n, i % numbers, buffer, SECTOR, &words, &erasures) != 0)
-            fail("a write was refused");
-    }
-}
-
-/* Writes on, half of the numbers in no order, until the next write reclaims: its victim has live slots to copy. */
-static void fill_to_reclaim(struct geometry g, uint32_t *image)
-{
-    uint32_t words, erasures = 0, chance = 1, buffer[SECTOR] = {0};
-    size_t n = words_of(g);
-    uint32_t *before = malloc(n * sizeof *before);
-    if (!before)
-        fail("no memory");
-    while (erasures == 0) {
-        memcpy(before, image, n * sizeof *before);
-        chance = chance * 1664525u + 1013904223u;
-        if (shellwaltz_write(g.blocks, g.sectors, g.logical, image, n, (chance >> 8) % ((g.logical + 1) / 2), buffer, SECTOR, &words, &erasures) != 0)
-            fail("a write was refused");
-    }
-    memcpy(image, before, n * sizeof *before);
-    free(before);
-}
-
 static double lesser(double a, double b)
 {
     return a < b ? a : b;
@@ -247,104 +206,6 @@ static void growth_at(struct geometry g)
     free(image);
 }
 
-/* ---- Stack: a call runs on a stack of its own that was painted before, and the deepest word that lost its paint tells. */
-
-enum { STACK_WORDS = 16384 };
-static uint32_t stack[STACK_WORDS];
-static const uint32_t PAINT = 0xA5C3A5C3u;
-static ucontext_t here, there;
-static struct state *painted;
-static void (*painted_call)(struct state *);
-
-static void nothing(struct state *s)
-{
-    (void)s;
-}
-
-static void call_check(struct state *s)
-{
-    sink = shellwaltz_check(s->g.blocks, s->g.sectors, s->g.logical, s->image, words_of(s->g));
-}
-
-static void call_format(struct state *s)
-{
-    sink = shellwaltz_format(s->g.blocks, s->g.sectors, s->g.logical, s->image, words_of(s->g), &s->words, &s->erasures);
-}
-
-static void call_report(struct state *s)
-{
-    uint32_t sum;
-    sink = shellwaltz_report(s->g.blocks, s->g.sectors, s->g.logical, s->image, words_of(s->g), &s->words, &s->erasures, &s->buffer[0], &sum);
-}
-
-static void call_read(struct state *s)
-{
-    sink = once(s, READ);
-}
-
-static void call_write(struct state *s)
-{
-    sink = once(s, WRITE);
-}
-
-static void call_release(struct state *s)
-{
-    sink = shellwaltz_release(s->g.blocks, s->g.sectors, s->g.logical, s->image, words_of(s->g), s->number, &s->words, &s->erasures);
-}
-
-static void on_the_painted_stack(void)
-{
-    painted_call(painted);
-}
-
-static size_t stack_bytes(struct state *s, void (*call)(struct state *))
-{
-    for (size_t i = 0; i < STACK_WORDS; i++)
-        stack[i] = PAINT;
-    put_back(s);
-    painted = s;
-    painted_call = call;
-    if (getcontext(&there) != 0)
-        fail("no context");
-    there.uc_stack.ss_sp = stack;
-    there.uc_stack.ss_size = sizeof stack;
-    there.uc_link = &here;
-    makecontext(&there, on_the_painted_stack, 0);
-    if (swapcontext(&here, &there) != 0)
-        fail("no context");
-    size_t untouched = 0;
-    while (untouched < STACK_WORDS && stack[untouched] == PAINT)
-        untouched++;
-    return (STACK_WORDS - untouched) * sizeof *stack;
-}
-
-/* The stack of each call at the largest geometry, less what the measuring itself takes. */
-static void stacks(void)
-{
-    static const struct {
-        const char *name;
-        void (*call)(struct state *);
-    } calls[] = {{"format", call_format}, {"check", call_check}, {"report", call_report},
-                 {"read", call_read}, {"write with reclaim", call_write}, {"release", call_release}};
-    struct geometry g = {64, 64, 3968};
-    uint32_t *master = malloc(words_of(g) * sizeof *master);
-    struct state s = {.g = g, .layer = &library, .master = master, .image = malloc(words_of(g) * sizeof *master), .number = 3};
-    if (!master || !s.image)
-        fail("no memory");
-    fill_half(g, master);
-    fill_to_reclaim(g, master);
-    size_t own = stack_bytes(&s, nothing);
-    printf("\n| Call | Stack, bytes |\n|---|---|\n");
-    for (size_t i = 0; i < sizeof calls / sizeof *calls; i++) {
-        size_t bytes = stack_bytes(&s, calls[i].call) - own;
-        printf("| %s | %zu |\n", calls[i].name, bytes);
-        if (bytes >= 4096)
-            fail("a call uses 4 KiB of stack or more");
-    }
-    free(s.image);
-    free(master);
-}
-
 int main(void)
 {
     static const struct geometry three[] = {{8, 16, 90}, {32, 32, 900}, {64, 64, 3968}};
@@ -356,6 +217,5 @@ int main(void)
     printf("\n| Geometry | Words of the image | Words looked at | Check, ns per word | Check, ns per word looked at |\n|---|---|---|---|---|\n");
     for (size_t i = 0; i < sizeof growing / sizeof *growing; i++)
         growth_at(growing[i]);
-    stacks();
     return 0;
 }
