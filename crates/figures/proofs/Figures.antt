@@ -12,12 +12,8 @@ use Rattle.flash.specs.Writing.{filling, mustReclaim, copying, reclaiming, recl
 use Rattle.shellwaltz.specs.Refusals.{formatAnswer, checkAnswer, readAnswer, writeAnswer, releaseAnswer}
 use Rattle.shellwaltz.specs.Calls.{countsZeroed, fresh, formatted, readBuffer, writeSteps, releaseSteps}
 use Rattle.shellwaltz.specs.Runs.{called, ran}
-use Rattle.figures.specs.Figures.{P1-to-P9, BoundsAreTight}
+use Rattle.figures.specs.Figures.{P1-to-P9}
 
 pub p1-to-p9 : P1-to-P9
 unfolding allBelow anyBelow sumBelow listBelow bestBelow bit cleared shared roundedUp g withinLimits eraseCount leastMapped greatestMapped freeMap entry contents isComplete slotOf slot find blank full lowestFree lowestOpen leastWornBlank victim R1 R2 R3 R4 R5 R6 R7 brokenRule soundBlock sound wellFormed erasedBlock applied run wordsIn erasuresIn leastLive greatestLive closesBlock fillsSlot placing releasing filling mustReclaim copying reclaiming reclaimingFirst writing formatAnswer checkAnswer readAnswer writeAnswer releaseAnswer countsZeroed fresh formatted readBuffer writeSteps releaseSteps called ran
 p1-to-p9 = tt
-
-pub bounds-are-tight : BoundsAreTight
-unfolding allBelow anyBelow sumBelow listBelow bestBelow bit cleared shared roundedUp g withinLimits eraseCount leastMapped greatestMapped freeMap entry contents isComplete slotOf slot find blank full lowestFree lowestOpen leastWornBlank victim R1 R2 R3 R4 R5 R6 R7 brokenRule soundBlock sound wellFormed erasedBlock applied run wordsIn erasuresIn leastLive greatestLive closesBlock fillsSlot placing releasing filling mustReclaim copying reclaiming reclaimingFirst writing formatAnswer checkAnswer readAnswer writeAnswer releaseAnswer countsZeroed fresh formatted readBuffer writeSteps releaseSteps called ran
-bounds-are-tight = tt
