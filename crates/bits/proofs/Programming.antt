@@ -7,10 +7,8 @@ use native.Mathlib.Decide.{decLt, ℕ-discrete}
 use native.Mathlib.Omega.{arith}
 use lib.Arith.{lt-one}
 use lib.Bits.{bitAnd, and-step, and-zero-l}
-use Rattle.ranges.specs.Range.{_implies_}
-use Rattle.ranges.proofs.Tests.{all-at, all-of}
-use Rattle.bits.specs.Word.{ones, bit, isSet, cleared, shared, programmed, onlyClears}
-use Rattle.bits.proofs.Bit.{bit-zero, bit-suc, bit-at-most-one, ones-bit, bits-same, bit-set, bit-clear, set-bit, clear-bit, bit-beyond}
+use Rattle.bits.specs.Word.{ones, bit, isSet, cleared, shared, programmed}
+use Rattle.bits.proofs.Bit.{bit-zero, bit-suc, bit-at-most-one, ones-bit, bits-same, bit-set, bit-clear, set-bit, bit-beyond}
 use Rattle.bits.proofs.Clearing.{cleared-set, cleared-here, cleared-other, cleared-le}
 
 -- ---- over m bits
@@ -59,36 +57,25 @@ programmed-never-sets old asked j t = go (decLt j 32)
         absurd (omega (arith, bit-set (programmed old asked) j t, bit-beyond 32 (programmed old asked) j (programmed-lt old asked) (omega arith)))
 
 -- an asked word that has no bit set but those of the old one is left as asked
-pub left-when-only-clears : (old asked : ℕ) → asked < 2 ^ 32 → onlyClears old asked ≡ true → programmed old asked ≡ asked
-left-when-only-clears old asked l t =
+pub left-when-only-clears : (old asked : ℕ) → asked < 2 ^ 32 → ((j : ℕ) → isSet asked j ≡ true → isSet old j ≡ true) → programmed old asked ≡ asked
+left-when-only-clears old asked l only =
     bits-same 32 (programmed old asked) asked (programmed-lt old asked) l
-    (λ j q. shared-bit 32 old asked j q ∙ go j (isSet asked j) refl (all-at 32 _ t j q))
+    (λ j q. shared-bit 32 old asked j q ∙ go j (isSet asked j) refl)
   where
-    go : (j : ℕ) (b : Bool) → isSet asked j ≡ b → (b implies isSet old j) ≡ true → min (bit old j) (bit asked j) ≡ bit asked j
-    go j true e h = omega (arith, bit-set asked j e, bit-set old j h)
-    go j false e h = omega (arith, bit-clear asked j e)
-
-pub only-clears-when-left : (old asked : ℕ) → programmed old asked ≡ asked → onlyClears old asked ≡ true
-only-clears-when-left old asked e = all-of 32 (λ j q. go j (isSet asked j) refl)
-  where
-    go : (j : ℕ) (b : Bool) → isSet asked j ≡ b → (b implies isSet old j) ≡ true
-    go j true t = programmed-never-sets old asked j (ap (λ (w : ℕ). isSet w j) e ∙ t)
-    go j false t = refl
+    go : (j : ℕ) (b : Bool) → isSet asked j ≡ b → min (bit old j) (bit asked j) ≡ bit asked j
+    go j true e = omega (arith, bit-set asked j e, bit-set old j (only j e))
+    go j false e = omega (arith, bit-clear asked j e)
 
 -- ---- the words that the steps ask for
 
 -- a word with one bit cleared
 pub clearing-leaves : (w j : ℕ) → w < 2 ^ 32 → programmed w (cleared w j) ≡ cleared w j
 clearing-leaves w j l =
-    left-when-only-clears w (cleared w j) (omega (arith, cleared-le w j)) (all-of 32 (λ i q. go i (ℕ-discrete i j)))
+    left-when-only-clears w (cleared w j) (omega (arith, cleared-le w j)) (λ i t. go i (ℕ-discrete i j) (bit-set (cleared w j) i t))
   where
-    implies-self : (b : Bool) → (b implies b) ≡ true
-    implies-self true = refl
-    implies-self false = refl
-
-    go : (i : ℕ) → Dec (i ≡ j) → (isSet (cleared w j) i implies isSet w i) ≡ true
-    go i (yes e) = rw (e, clear-bit (cleared w j) j (cleared-here w j))
-    go i (no n) = rw (cleared-other w j i n) (implies-self (isSet w i))
+    go : (i : ℕ) → Dec (i ≡ j) → bit (cleared w j) i ≡ 1 → isSet w i ≡ true
+    go i (yes e) t = absurd (omega (arith, ap (bit (cleared w j)) e, cleared-here w j))
+    go i (no n) t = set-bit w i (omega (arith, cleared-other w j i n))
 
 -- any word over ones
 pub ones-leave : (w : ℕ) → w < 2 ^ 32 → programmed ones w ≡ w

@@ -2,7 +2,7 @@
 use mathlib.Core.Bool.{Bool}
 use Prim.Native.Nat.{ℕ, zero, suc, _+_, _-_, _*_, _/_, _%_, _^_, min}
 use lib.Dec.{eqb}
-use Rattle.ranges.specs.Range.{_implies_, allBelow, countBelow, firstBelow}
+use Rattle.ranges.specs.Range.{countBelow, firstBelow}
 
 abbrev pub wordBits : ℕ
 wordBits = 32
@@ -30,10 +30,6 @@ shared (suc m) a b = shared m (a / 2) (b / 2) * 2 + min (a % 2) (b % 2)
 -- what programming leaves of two words: the bits that both have set (FORMAT.md, Steps)
 abbrev pub programmed : ℕ → ℕ → ℕ
 programmed old asked = shared wordBits old asked
-
--- asked has no bit set that old has clear
-abbrev pub onlyClears : ℕ → ℕ → Bool
-onlyClears old asked = allBelow wordBits (λ j. isSet asked j implies isSet old j)
 
 -- the place of the lowest set bit, or 32
 abbrev pub lowestSet : ℕ → ℕ

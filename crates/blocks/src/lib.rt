@@ -1,7 +1,7 @@
 // What the slots of a block say of it, and the blocks that a write chooses by them.
 ghost use mathlib.Core.Bool.{true};
 ghost use mathlib.Core.Path.{_≡_};
-ghost use Prim.Native.Nat.{ℕ, _<_};
+ghost use Prim.Native.Nat.{_<_};
 ghost use Rattle.ranges.specs.Range.{countBelow};
 ghost use Rattle.image.specs.Words.{Shaped, eraseCount};
 ghost use Rattle.image.specs.Blocks.{blank, tally, freeSlots, lowestFree, lowestOpen, leastWornBlank, victim};

@@ -11,7 +11,7 @@ use native.Mathlib.Nat.{
   lt-of-not-le,
 }
 use native.Mathlib.Omega.{arith}
-use borrow.Author.Tests.{le-leb, lt-leb, lt-ltb}
+use borrow.Author.Tests.{lt-leb}
 use Rattle.geometry.specs.declared.Geometry.{Geometry}
 use Rattle.geometry.specs.Geometry.{
   roundedUp,
@@ -45,19 +45,6 @@ limits-hold geo passes =
     holds m n fails =
         let no : n < m → ⊥ = λ h. true≢false (sym passes ∙ fails h) in
         omega arith
-
--- where each limit holds, the test passes
-pub limits-pass : (geo : Geometry) → Limits geo → withinLimits geo ≡ true
-unfolding withinLimits
-limits-pass geo limits =
-    simp (
-      le-leb _ _ (limits .blocks-low),
-      le-leb _ _ (limits .blocks-high),
-      le-leb _ _ (limits .sectors-low),
-      le-leb _ _ (limits .sectors-high),
-      le-leb _ _ (limits .logical-low),
-      lt-ltb _ _ (limits .logical-high),
-    )
 
 -- where a limit fails, the test fails
 pub limits-fail : (geo : Geometry) → (Limits geo → ⊥) → withinLimits geo ≡ false
@@ -213,12 +200,3 @@ module _ (geo : Geometry) (within : Limits geo) where
   pub g-at-most-d : g geo ≤ d geo
   unfolding g
   g-at-most-d = rounded-up-le _ _ (d geo) (omega arith) (omega arith)
-
-  -- one slot less from each of the other blocks would not reach the room that the logical sectors leave
-  pub g-tight : (geo .blocks - 1) * (g geo - 1) < room geo - geo .logical
-  unfolding g
-  g-tight =
-      lt-of-not-le
-      (λ reached.
-      let less : g geo ≤ g geo - 1 = rounded-up-le _ _ (g geo - 1) (omega arith) (omega arith) in
-      omega (arith, g-positive))

@@ -56,7 +56,7 @@ withinLimits geo =
     && (leb 2 (geo .sectors) && leb (geo .sectors) 64)
     && (leb 1 (geo .logical) && ltb (geo .logical) (room geo))
 
--- the same limits as facts, each by its name: proofs/Laws.antt shows that the test passes exactly where they hold
+-- the same limits as facts, each by its name: where the test passes, they hold (proofs/Laws)
 pub record Limits (geo : Geometry) : Type 0 where
   pub blocks-low : 2 ≤ geo .blocks
   pub blocks-high : geo .blocks ≤ 64

@@ -1,6 +1,6 @@
 // Placing a sector in a slot, (a) to (g), and releasing one.
 ghost use mathlib.Core.Path.{_≡_};
-ghost use Prim.Native.Nat.{ℕ, _<_};
+ghost use Prim.Native.Nat.{_<_};
 ghost use lib.ListN.{length};
 ghost use Rattle.geometry.specs.Geometry.{d, sectorWords};
 ghost use Rattle.image.specs.Words.{Shaped};

@@ -18,7 +18,7 @@ use image::Slot;
 use image::slots::slot_of;
 
 // Whether every word of a sector is all ones.
-pub fn all_ones(sector: &[u32]) -> bool
+fn all_ones(sector: &[u32]) -> bool
     requires { ⌜ length (now sector) ≡ sectorWords ⌝ }
     ensures { λ r. ⌜ r ≡ allOnes (now (sector .entry)) ⌝ }
 {
@@ -258,7 +258,7 @@ fn first_of_2_to_5(image: &[u32], geo: Geometry, b: usize) -> u32
 }
 
 // The number of the first rule that block b breaks, of R1 to R5 and R7 in that order; 0 where it keeps them all.
-pub fn broken_rule(image: &[u32], geo: Geometry, b: usize, marks: &mut [u32]) -> u32
+fn broken_rule(image: &[u32], geo: Geometry, b: usize, marks: &mut [u32]) -> u32
     requires { ⌜ Shaped geo (now image) ⌝ }
     requires { ⌜ b < geo .blocks ⌝ }
     requires { ⌜ Marks geo (now image) b 0 (now marks) ⌝ }

@@ -11,7 +11,6 @@ use Rattle.ranges.proofs.Tests.{all-ext}
 use Rattle.geometry.specs.Geometry.{d}
 use Rattle.geometry.specs.Places.{place, entryWord}
 use Rattle.image.specs.declared.Slot.{Slot}
-use Rattle.image.specs.Words.{Image}
 use Rattle.image.specs.Slots.{slot, isLiveWith}
 use Rattle.image.proofs.Reading.{word-inside, entry-inside, slotFrom, slot-read}
 use Rattle.rules.proofs.RuleLaws.{all-next, bounds-read}
