@@ -11,7 +11,7 @@ use Rattle.flash.specs.Placing.{leastLive, greatestLive, closesBlock, fillsSlot
 use Rattle.flash.specs.Writing.{filling, mustReclaim, copying, reclaiming, reclaimingFirst, writing}
 use Rattle.shellwaltz.specs.Refusals.{formatAnswer, checkAnswer, readAnswer, writeAnswer, releaseAnswer}
 use Rattle.shellwaltz.specs.Calls.{countsZeroed, fresh, formatted, readBuffer, writeSteps, releaseSteps}
-use Rattle.shellwaltz.specs.Runs.{called, ran}
+use Rattle.promises.specs.Runs.{called, ran}
 use Rattle.figures.specs.Figures.{P1-to-P9}
 
 pub p1-to-p9 : P1-to-P9

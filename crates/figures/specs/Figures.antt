@@ -13,7 +13,7 @@ use Rattle.image.specs.Words.{entry, freeMap}
 use Rattle.image.specs.Slots.{slotOf}
 use Rattle.shellwaltz.specs.Refusals.{numberOf, formatAnswer}
 use Rattle.shellwaltz.specs.Calls.{fresh, writeOutcome, written, released}
-use Rattle.shellwaltz.specs.Runs.{Call, Write, ran, started}
+use Rattle.promises.specs.Runs.{Call, Write, ran, started}
 
 -- a figure: what the definitions give, and what the page prints
 pub record Figure : Type 0 where

@@ -1,6 +1,6 @@
 -- The rows of the refusals: what the code's tests say of them, and what they leave where they do not apply. Assumes nothing.
 use mathlib.Core.Path.{_≡_, sym, ap, _∙_}
-use mathlib.Core.Bool.{Bool, false, not}
+use mathlib.Core.Bool.{Bool, true, false, not}
 use mathlib.Core.List.{List, _∷_}
 use Prim.Native.Nat.{ℕ, _<_}
 use lib.Dec.{eqb}
@@ -10,7 +10,10 @@ use Rattle.ranges.proofs.Tests.{both-pass}
 use Rattle.geometry.specs.declared.Geometry.{Geometry}
 use Rattle.geometry.specs.Geometry.{imageLength, sectorWords, withinLimits}
 use Rattle.geometry.proofs.Laws.{limits-hold}
-use Rattle.image.specs.Words.{Image, Shaped}
+use Rattle.image.specs.Words.{Image, Shaped, Words32}
+use Rattle.image.specs.WellFormed.{R6, sound, wellFormed}
+use Rattle.image.proofs.Facts.{sound-facts}
+use Rattle.flash.proofs.Filling.{Ready}
 use Rattle.shellwaltz.specs.Refusals.{Row, firstThatApplies, row1, row2, row3, row4}
 
 -- rows 1 and 4 are tests turned round: what the code got by turning its test round is what the row says
@@ -22,6 +25,13 @@ pub shaped-left : (geo : Geometry) (image : Image) → row1 geo image .applies �
 shaped-left geo image passed =
     let both = both-pass (withinLimits geo) (eqb (length image) (imageLength geo)) (not-false _ passed) in
     record { limits = limits-hold geo (both .0); long = eqb-true _ _ (both .1) }
+
+-- past rows 1 and 4 the image is one that steps can be carried out on, with a blank block
+pub formed-ready : (geo : Geometry) (image : Image) → Shaped geo image → Words32 image → wellFormed geo image ≡ true → Ready geo image × (R6 geo image ≡ true)
+unfolding wellFormed
+formed-ready geo image shaped words t =
+    let both = both-pass (sound geo image) (R6 geo image) t in
+    (record { shaped = shaped; words = words; sound = sound-facts geo image (both .0) }, both .1)
 
 -- where rows 1 to 4 do not apply, the rows after them decide
 pub past-four :

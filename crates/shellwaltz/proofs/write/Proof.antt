@@ -22,9 +22,8 @@ use Rattle.shellwaltz.specs.declared.Answer.{Answer}
 use Rattle.shellwaltz.specs.declared.Outcome.{Outcome}
 use Rattle.shellwaltz.specs.Refusals.{firstThatApplies, row1, row6, writeRows, writeAnswer}
 use Rattle.shellwaltz.specs.Calls.{outcome, writeSteps, writeOutcome, written}
-use Rattle.shellwaltz.proofs.CallLaws.{as-tested, shaped-left, past-four}
+use Rattle.shellwaltz.proofs.CallLaws.{as-tested, shaped-left, past-four, formed-ready}
 use Rattle.shellwaltz.proofs.Rows.{FirstIs, here, later}
-use Rattle.shellwaltz.proofs.Accepted.{formed-ready}
 use Rattle.shellwaltz.proofs.Changing.{left-alone, carried-out, refused-by}
 use Rattle.shellwaltz.proofs.write.Statement.{statement}
 use Rattle.shellwaltz.proofs.write.Tie as tie

@@ -20,12 +20,13 @@ use Rattle.flash.specs.Steps.{run}
 use Rattle.flash.specs.Placing.{releasing}
 use Rattle.flash.specs.Writing.{writing}
 use Rattle.flash.proofs.Counts.{placing-words}
 use Rattle.shellwaltz.specs.Refusals.{checkAnswer, readAnswer}
 use Rattle.shellwaltz.specs.Calls.{fresh, formatted, totalsOf, noTotals, reported, readBuffer}
-use Rattle.shellwaltz.specs.Properties.{TheOneSlot, FormatMakesAFreshImage, ReportAddsUp, OthersReadAsBefore, PlacingCosts, WearAndFreeSlots}
-use Rattle.shellwaltz.proofs.Accepted.{check-accepted, format-accepted, formed-ready, ready-formed, write-accepted, write-steps, write-wrote, release-accepted, release-steps, release-blank, release-released}
-use Rattle.shellwaltz.proofs.Fresh.{fresh-formed, fresh-map, fresh-frees, fresh-worn}
+use Rattle.promises.specs.Properties.{TheOneSlot, FormatMakesAFreshImage, ReportAddsUp, OthersReadAsBefore, PlacingCosts, WearAndFreeSlots}
+use Rattle.promises.proofs.Accepted.{check-accepted, format-accepted, ready-formed, write-accepted, write-steps, write-wrote, release-accepted, release-steps, release-blank, release-released}
+use Rattle.promises.proofs.Fresh.{fresh-formed, fresh-map, fresh-frees, fresh-worn}
 use Rattle.shellwaltz.proofs.Rows.{if-accepted}
+use Rattle.shellwaltz.proofs.CallLaws.{formed-ready}
 
 pub the-one-slot : TheOneSlot
 unfolding wellFormed

@@ -19,11 +19,11 @@ use Rattle.image.specs.WellFormed.{wellFormed}
 use Rattle.flash.specs.Steps.{run, erasesBlock, leavesAsked}
 use Rattle.flash.specs.Placing.{releasing}
 use Rattle.flash.specs.Writing.{mustReclaim, writing}
 use Rattle.shellwaltz.specs.declared.Answer.{Answer}
 use Rattle.shellwaltz.specs.declared.Answer.the-variants.{Accepted, Unmapped}
 use Rattle.shellwaltz.specs.Refusals.{numberOf, Row, formatRows, checkRows, readRows, writeRows, releaseRows, formatAnswer, checkAnswer, readAnswer, writeAnswer, releaseAnswer}
 use Rattle.shellwaltz.specs.Calls.{formatted, noTotals, reported, readBuffer, writeSteps, writeOutcome, written, releaseOutcome, released, outcome}
-use Rattle.shellwaltz.specs.Runs.{Call, OfWords, State, ran, started}
+use Rattle.promises.specs.Runs.{Call, OfWords, State, ran, started}
 
 -- ---- Demand 1. Whatever is handed in, nothing traps: no public function of src/lib.rt has a `requires`, and a proved function does
 -- nothing undefined and returns.

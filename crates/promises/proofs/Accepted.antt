@@ -6,7 +6,6 @@ use Prim.Native.Nat.{ℕ}
 use lib.Dec.{eqb}
 use lib.ListN.{length}
 use borrow.Author.Tests.{not-false, eqb-true, eq-eqb, leb-false}
-use Rattle.ranges.proofs.Tests.{both-pass}
 use Rattle.geometry.specs.declared.Geometry.{Geometry}
 use Rattle.geometry.specs.Geometry.{sectorWords}
 use Rattle.image.specs.declared.Found.{Found}
@@ -15,28 +14,23 @@ use Rattle.image.specs.Words.{Image, Shaped, Words32, eraseCount}
 use Rattle.image.specs.Slots.{find, isMapped}
 use Rattle.image.specs.Blocks.{victim}
 use Rattle.image.specs.WellFormed.{ceiling, R6, sound, wellFormed}
-use Rattle.image.proofs.Facts.{sound-facts, facts-sound}
+use Rattle.image.proofs.Facts.{facts-sound}
 use Rattle.flash.specs.Placing.{releasing}
 use Rattle.flash.specs.Writing.{mustReclaim, writing}
 use Rattle.flash.proofs.Filling.{Ready}
 use Rattle.flash.proofs.Written.{Wrote, writing-wrote}
 use Rattle.flash.proofs.Released.{Released, releasing-released}
 use Rattle.shellwaltz.specs.declared.Answer.the-variants.{Accepted}
 use Rattle.shellwaltz.specs.Refusals.{formatRows, checkRows, readRows, writeRows, releaseRows, formatAnswer, checkAnswer, readAnswer, writeAnswer, releaseAnswer}
 use Rattle.shellwaltz.specs.Calls.{writeSteps, releaseSteps}
-use Rattle.shellwaltz.proofs.CallLaws.{shaped-left}
-use Rattle.shellwaltz.proofs.Rows.{NoneApplies, none-applies, if-accepted}
+use Rattle.shellwaltz.proofs.CallLaws.{shaped-left, formed-ready}
+use Rattle.shellwaltz.proofs.Rows.{if-accepted}
+use Rattle.promises.proofs.Given.{NoneApplies, none-applies}
 
 module _ (geo : Geometry) (image : Image) where
   -- row 4 does not apply
   pub formed-by : not (wellFormed geo image) ≡ false → wellFormed geo image ≡ true
   formed-by t = not-false (wellFormed geo image) t
-
-  pub formed-ready : Shaped geo image → Words32 image → wellFormed geo image ≡ true → Ready geo image × (R6 geo image ≡ true)
-  unfolding wellFormed
-  formed-ready shaped words t =
-      let both = both-pass (sound geo image) (R6 geo image) t in
-      (record { shaped = shaped; words = words; sound = sound-facts geo image (both .0) }, both .1)
 
   pub ready-formed : Ready geo image → R6 geo image ≡ true → wellFormed geo image ≡ true
   unfolding wellFormed
@@ -91,7 +85,7 @@ module _ (geo : Geometry) (image : Image) where
 
     pub write-wrote : Wrote geo image n buffer (victim geo image) (writing geo image n buffer)
     write-wrote =
-        let start = formed-ready (shaped-left geo image (write-rows .0)) words (formed-by (write-rows .1 .1 .1 .0)) in
+        let start = formed-ready geo image (shaped-left geo image (write-rows .0)) words (formed-by (write-rows .1 .1 .1 .0)) in
         writing-wrote geo image n buffer (start .0) (start .1)
         (record {
           number = leb-false (geo .logical) n (write-rows .1 .1 .0);
@@ -124,7 +118,7 @@ module _ (geo : Geometry) (image : Image) where
     release-steps = if-accepted (releasing geo image n) [] accepted
 
     release-start : Ready geo image × (R6 geo image ≡ true)
-    release-start = formed-ready (shaped-left geo image (release-rows .0)) words (formed-by (release-rows .1 .1 .0))
+    release-start = formed-ready geo image (shaped-left geo image (release-rows .0)) words (formed-by (release-rows .1 .1 .0))
 
     pub release-blank : R6 geo image ≡ true
     release-blank = release-start .1

@@ -20,16 +20,18 @@ use Rattle.flash.proofs.Stores.{run-none}
 use Rattle.flash.proofs.Counts.{releasing-erasures}
 use Rattle.flash.proofs.Clearing.{run-clears, erases-none}
 use Rattle.flash.proofs.Planned.{writing-fills, filling-erases-nothing}
 use Rattle.shellwaltz.specs.declared.Answer.{Answer}
 use Rattle.shellwaltz.specs.declared.Answer.the-variants.{Accepted, BadGeometry, BadBuffer, BadNumber, Malformed, Unmapped, WornOut}
 use Rattle.shellwaltz.specs.Refusals.{formatRows, checkRows, readRows, writeRows, releaseRows, formatAnswer, checkAnswer, readAnswer, writeAnswer, releaseAnswer, row1, row2, row3, row4}
 use Rattle.shellwaltz.specs.Calls.{ifAccepted, fresh, formatted, totalsOf, noTotals, reported, copiedFrom, readBuffer, writeSteps, releaseSteps, outcome}
-use Rattle.shellwaltz.specs.Runs.{ran, started}
-use Rattle.shellwaltz.specs.Demands.{Refusals, RefusedChangesNothing, ReadReturnsTheMap, WriteSetsOneSector, ReleaseRemovesOneSector, ProgrammingOnlyClears, OnlyTheVictimIsErased, StepsLeaveTheAskedWord, WriteBound, RunBound, RunBoundFromAny}
-use Rattle.shellwaltz.proofs.Rows.{given-exactly, accepted?, if-accepted, if-refused, if-either}
-use Rattle.shellwaltz.proofs.Accepted.{check-accepted, format-accepted, read-accepted, formed-ready, ready-formed, write-steps, write-wrote, release-steps, release-blank, release-released}
-use Rattle.shellwaltz.proofs.Fresh.{fresh-ready, fresh-blank, fresh-frees, fresh-worn}
-use Rattle.shellwaltz.proofs.Running.{runs}
+use Rattle.promises.specs.Runs.{ran, started}
+use Rattle.promises.specs.Demands.{Refusals, RefusedChangesNothing, ReadReturnsTheMap, WriteSetsOneSector, ReleaseRemovesOneSector, ProgrammingOnlyClears, OnlyTheVictimIsErased, StepsLeaveTheAskedWord, WriteBound, RunBound, RunBoundFromAny}
+use Rattle.shellwaltz.proofs.Rows.{if-accepted, if-refused}
+use Rattle.shellwaltz.proofs.CallLaws.{formed-ready}
+use Rattle.promises.proofs.Given.{given-exactly, accepted?, if-either}
+use Rattle.promises.proofs.Accepted.{check-accepted, format-accepted, read-accepted, ready-formed, write-steps, write-wrote, release-steps, release-blank, release-released}
+use Rattle.promises.proofs.Fresh.{fresh-ready, fresh-blank, fresh-frees, fresh-worn}
+use Rattle.promises.proofs.Running.{runs}
 
 -- ---- Demand 1
 

@@ -1,0 +1,6 @@
+pub mod Given
+pub mod Accepted
+pub mod Fresh
+pub mod Running
+pub mod Demands
+pub mod Properties
