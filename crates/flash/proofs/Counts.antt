@@ -15,9 +15,10 @@ use Rattle.image.specs.declared.Found.{Found}
 use Rattle.image.specs.declared.Found.the-variants.{At, Nothing}
 use Rattle.image.specs.Words.{Image}
 use Rattle.image.specs.Slots.{validBit, isAt, find, isMapped}
-use Rattle.image.specs.Blocks.{full}
+use Rattle.image.specs.Blocks.{full, lowestFree, lowestOpen, leastWornBlank}
 use Rattle.flash.specs.Steps.{Step, run, wordsIn, erasuresIn}
 use Rattle.flash.specs.Placing.{entryAt, programsEntry, closesBlock, fillsSlot, placing, releasing}
+use Rattle.flash.specs.Writing.{anyOpen, filling}
 use Rattle.flash.proofs.Stores.{Counts, counts-words, counts-erasures, count-append, count-one, count-list}
 
 -- Any count of steps that takes `per` for a word programmed: what it says of a placing and of a release. They erase nothing.
@@ -70,3 +71,12 @@ module _ (geo : Geometry) (image : Image) (n : ℕ) where
 
   pub releasing-erasures : erasuresIn (releasing geo image n) ≡ 0
   releasing-erasures = omega (arith, releasing-count counts-erasures geo image n)
+
+  -- rules 1 and 2 place, wherever it is
+  pub filling-erases-nothing : (ws : List ℕ) → erasuresIn (filling geo image n ws) ≡ 0
+  unfolding filling
+  filling-erases-nothing ws = go (anyOpen geo image) refl
+    where
+      go : (x : Bool) → anyOpen geo image ≡ x → erasuresIn (filling geo image n ws) ≡ 0
+      go true t = rw t (placing-erasures ws (lowestOpen geo image) (lowestFree geo image (lowestOpen geo image)))
+      go false t = rw t (placing-erasures ws (leastWornBlank geo image) 0)

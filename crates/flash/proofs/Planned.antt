@@ -18,8 +18,6 @@ use Rattle.image.specs.WellFormed.{ceiling, R6}
 use Rattle.flash.specs.declared.Plan.the-variants.{Fill, Reclaim, Worn}
 use Rattle.flash.specs.Placing.{placing}
 use Rattle.flash.specs.Writing.{anyOpen, filling, mustReclaim, reclaimingFirst, writing, planned}
-use Rattle.flash.specs.Steps.{erasuresIn}
-use Rattle.flash.proofs.Counts.{placing-erasures}
 use Rattle.flash.proofs.Chosen.{open-free}
 
 module _ (geo : Geometry) (image : Image) where
@@ -131,11 +129,3 @@ module _ (geo : Geometry) (image : Image) where
   pub writing-reclaims : mustReclaim geo image ≡ true → (n : ℕ) (ws : List ℕ) → writing geo image n ws ≡ reclaimingFirst geo image (victim geo image) n ws
   unfolding writing
   writing-reclaims t n ws = rw t
-
-  pub filling-erases-nothing : (n : ℕ) (ws : List ℕ) → erasuresIn (filling geo image n ws) ≡ 0
-  unfolding filling
-  filling-erases-nothing n ws = go (anyOpen geo image) refl
-    where
-      go : (x : Bool) → anyOpen geo image ≡ x → erasuresIn (filling geo image n ws) ≡ 0
-      go true t = rw t (placing-erasures geo image n ws (lowestOpen geo image) (lowestFree geo image (lowestOpen geo image)))
-      go false t = rw t (placing-erasures geo image n ws (leastWornBlank geo image) 0)

@@ -26,7 +26,7 @@ use Rattle.flash.specs.Placing.{placing}
 use Rattle.flash.specs.Writing.{FoundInPlace, filling, mustReclaim, reclaiming, reclaimingFirst, writing}
 use Rattle.flash.proofs.Stores.{run-append, asked-append, words-append, erasures-append}
 use Rattle.flash.proofs.Clearing.{erases-append, erases-none}
-use Rattle.flash.proofs.Counts.{placing-erasures}
+use Rattle.flash.proofs.Counts.{placing-erasures, filling-erases-nothing}
 use Rattle.flash.proofs.Filling.{Ready, Target}
 use Rattle.flash.proofs.Placed.{Placed, placing-exact, placing-placed, placing-bounds, placing-cost, placing-shaped, placing-words32}
 use Rattle.flash.proofs.Kept.{free-as-before, placed-sound, placed-here, placed-other, placed-free}
@@ -271,7 +271,7 @@ module _
       w = filling-wrote geo base n ws (r .ready) sector reclaim-choice v
 
       placed : erasuresIn second ≡ 0
-      placed = ap erasuresIn (reclaim-choice .chosen .steps n ws) ∙ placing-erasures geo base n ws (reclaim-choice .b) (reclaim-choice .i)
+      placed = filling-erases-nothing geo base n ws
 
       same-image : run geo image (first ++ second) ≡ run geo base second
       same-image = run-append geo image first second
@@ -289,7 +289,7 @@ module _
 
       pub reclaiming-once : erasuresIn (reclaimingFirst geo image v n ws) ≡ 1
       unfolding reclaimingFirst
-      reclaiming-once = once
+      reclaiming-once = erasures-append first _ ∙ ap₂ _+_ (r .erasures) (filling-erases-nothing geo _ n ws)
 
       pub reclaiming-wrote : Wrote geo image n ws v (reclaimingFirst geo image v n ws)
       unfolding reclaimingFirst

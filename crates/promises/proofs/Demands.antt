@@ -17,9 +17,9 @@ use Rattle.flash.specs.Steps.{Step, run, erasuresIn, erasesBlock}
 use Rattle.flash.specs.Placing.{releasing}
 use Rattle.flash.specs.Writing.{mustReclaim, writing}
 use Rattle.flash.proofs.Stores.{run-none}
-use Rattle.flash.proofs.Counts.{releasing-erasures}
+use Rattle.flash.proofs.Counts.{releasing-erasures, filling-erases-nothing}
 use Rattle.flash.proofs.Clearing.{run-clears, erases-none}
-use Rattle.flash.proofs.Planned.{writing-fills, filling-erases-nothing}
+use Rattle.flash.proofs.Planned.{writing-fills}
 use Rattle.shellwaltz.specs.declared.Answer.{Answer}
 use Rattle.shellwaltz.specs.declared.Answer.the-variants.{Accepted, BadGeometry, BadBuffer, BadNumber, Malformed, Unmapped, WornOut}
 use Rattle.shellwaltz.specs.Refusals.{formatRows, checkRows, readRows, writeRows, releaseRows, formatAnswer, checkAnswer, readAnswer, writeAnswer, releaseAnswer, row1, row2, row3, row4}

@@ -16,7 +16,8 @@ use Rattle.image.specs.Blocks.{victim}
 use Rattle.flash.specs.declared.Plan.the-variants.{Reclaim}
 use Rattle.flash.specs.Steps.{run, erasuresIn}
 use Rattle.flash.specs.Writing.{reclaimingFirst, writing}
-use Rattle.flash.proofs.Planned.{plan-says, fill-says, worn-says, writing-fills, writing-reclaims, filling-erases-nothing}
+use Rattle.flash.proofs.Counts.{filling-erases-nothing}
+use Rattle.flash.proofs.Planned.{plan-says, fill-says, worn-says, writing-fills, writing-reclaims}
 use Rattle.flash.proofs.Written.{victim-in, victim-reclaimable, reclaiming-once}
 use Rattle.shellwaltz.specs.declared.Answer.{Answer}
 use Rattle.shellwaltz.specs.declared.Outcome.{Outcome}
