@@ -93,14 +93,14 @@ module _ {geo : Geometry} (b s l : ℕ) (e : geo ≡ shape (narrowed b) (narrowe
     narrowing (λ x. released x image n) image (λ x out. rw out (run-none x image)) b s l e,
   )
 
--- what a call gave, and what it gives for the numbers handed in: the parts of the outcome, the answer by its number, and the image
+-- what a call gave, and what it gives for the numbers handed in: the answer by its number, the image, and the two counts
 pub parts :
     {number : ℕ} {gave passed says : Outcome} {left passes leaves : Image} →
     number ≡ numberOf (gave .answer) →
     (gave ≡ passed) × (left ≡ passes) →
     (passed ≡ says) × (passes ≡ leaves) →
-    (number ≡ numberOf (says .answer)) × ((gave .words ≡ says .words) × ((gave .erasures ≡ says .erasures) × (left ≡ leaves)))
+    (number ≡ numberOf (says .answer)) × ((left ≡ leaves) × ((gave .words ≡ says .words) × (gave .erasures ≡ says .erasures)))
 parts is-number (gives, leaves-it) (same, same-image) = (
   is-number ∙ ap (λ o. numberOf (o .answer)) (gives ∙ same),
-  (ap (λ o. o .words) (gives ∙ same), (ap (λ o. o .erasures) (gives ∙ same), leaves-it ∙ same-image)),
+  (leaves-it ∙ same-image, (ap (λ o. o .words) (gives ∙ same), ap (λ o. o .erasures) (gives ∙ same))),
 )

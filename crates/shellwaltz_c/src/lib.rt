@@ -37,9 +37,9 @@ pub extern "C" fn shellwaltz_format(
     erasures: &mut u32,
 ) -> u32
     ensures { λ r. ⌜ r ≡ numberOf (formatOutcome (shape blocks sectors logical) (now (image .entry)) .answer) ⌝ }
+    ensures { λ _. ⌜ now (image .exit) ≡ formatted (shape blocks sectors logical) (now (image .entry)) ⌝ }
     ensures { λ _. ⌜ now (words .exit) ≡ formatOutcome (shape blocks sectors logical) (now (image .entry)) .words ⌝ }
     ensures { λ _. ⌜ now (erasures .exit) ≡ formatOutcome (shape blocks sectors logical) (now (image .entry)) .erasures ⌝ }
-    ensures { λ _. ⌜ now (image .exit) ≡ formatted (shape blocks sectors logical) (now (image .entry)) ⌝ }
 {
     let made = shellwaltz::format(image, geometry(blocks, sectors, logical));
     *words = made.words;
@@ -112,9 +112,9 @@ pub extern "C" fn shellwaltz_write(
     erasures: &mut u32,
 ) -> u32
     ensures { λ r. ⌜ r ≡ numberOf (writeOutcome (shape blocks sectors logical) (now (image .entry)) number (now (buffer .entry)) .answer) ⌝ }
+    ensures { λ _. ⌜ now (image .exit) ≡ written (shape blocks sectors logical) (now (image .entry)) number (now (buffer .entry)) ⌝ }
     ensures { λ _. ⌜ now (words .exit) ≡ writeOutcome (shape blocks sectors logical) (now (image .entry)) number (now (buffer .entry)) .words ⌝ }
     ensures { λ _. ⌜ now (erasures .exit) ≡ writeOutcome (shape blocks sectors logical) (now (image .entry)) number (now (buffer .entry)) .erasures ⌝ }
-    ensures { λ _. ⌜ now (image .exit) ≡ written (shape blocks sectors logical) (now (image .entry)) number (now (buffer .entry)) ⌝ }
 {
     let wrote = shellwaltz::write(image, geometry(blocks, sectors, logical), number, buffer);
     *words = wrote.words;
@@ -135,9 +135,9 @@ pub extern "C" fn shellwaltz_release(
     erasures: &mut u32,
 ) -> u32
     ensures { λ r. ⌜ r ≡ numberOf (releaseOutcome (shape blocks sectors logical) (now (image .entry)) number .answer) ⌝ }
+    ensures { λ _. ⌜ now (image .exit) ≡ released (shape blocks sectors logical) (now (image .entry)) number ⌝ }
     ensures { λ _. ⌜ now (words .exit) ≡ releaseOutcome (shape blocks sectors logical) (now (image .entry)) number .words ⌝ }
     ensures { λ _. ⌜ now (erasures .exit) ≡ releaseOutcome (shape blocks sectors logical) (now (image .entry)) number .erasures ⌝ }
-    ensures { λ _. ⌜ now (image .exit) ≡ released (shape blocks sectors logical) (now (image .entry)) number ⌝ }
 {
     let freed = shellwaltz::release(image, geometry(blocks, sectors, logical), number);
     *words = freed.words;

@@ -1,0 +1,89 @@
+-- The contract of every public function determines what a call does: the answer, each count, the whole image and the buffer. A contract is
+-- here what the toolchain makes of the clauses in the source, so one that is dropped or weakened there makes its line of `EveryContract` false.
+--
+-- To add a public function: give it no `requires`, and as `ensures` equations whose right sides name the arguments alone, one for the result
+-- and then one for each `&mut` parameter, in the parameters' order. Name it here, and add a line to `EveryContract` and one to its proof.
+use Rattle.determined.specs.Determined.{Function, Determined}
+use Rattle.shellwaltz.proofs as calls
+use Rattle.shellwaltz_c.proofs as in-c
+use Rattle.records.proofs as records
+
+-- ---- the calls
+abbrev pub number : Function
+number = record { ended = calls.number.ended; clauses = λ M. calls.number.clauses; routine = calls.number.Symbol.routine }
+
+abbrev pub format : Function
+format = record { ended = calls.format.ended; clauses = λ M. calls.format.clauses; routine = calls.format.Symbol.routine }
+
+abbrev pub check : Function
+check = record { ended = calls.check.ended; clauses = λ M. calls.check.clauses; routine = calls.check.Symbol.routine }
+
+abbrev pub report : Function
+report = record { ended = calls.report.ended; clauses = λ M. calls.report.clauses; routine = calls.report.Symbol.routine }
+
+abbrev pub read : Function
+read = record { ended = calls.read.ended; clauses = λ M. calls.read.clauses; routine = calls.read.Symbol.routine }
+
+abbrev pub write : Function
+write = record { ended = calls.write.ended; clauses = λ M. calls.write.clauses; routine = calls.write.Symbol.routine }
+
+abbrev pub release : Function
+release = record { ended = calls.release.ended; clauses = λ M. calls.release.clauses; routine = calls.release.Symbol.routine }
+
+-- ---- the calls for C
+abbrev pub c-format : Function
+c-format =
+    record { ended = in-c.shellwaltz_format.ended; clauses = λ M. in-c.shellwaltz_format.clauses; routine = in-c.shellwaltz_format.Symbol.routine }
+
+abbrev pub c-check : Function
+c-check =
+    record { ended = in-c.shellwaltz_check.ended; clauses = λ M. in-c.shellwaltz_check.clauses; routine = in-c.shellwaltz_check.Symbol.routine }
+
+abbrev pub c-report : Function
+c-report =
+    record { ended = in-c.shellwaltz_report.ended; clauses = λ M. in-c.shellwaltz_report.clauses; routine = in-c.shellwaltz_report.Symbol.routine }
+
+abbrev pub c-read : Function
+c-read =
+    record { ended = in-c.shellwaltz_read.ended; clauses = λ M. in-c.shellwaltz_read.clauses; routine = in-c.shellwaltz_read.Symbol.routine }
+
+abbrev pub c-write : Function
+c-write =
+    record { ended = in-c.shellwaltz_write.ended; clauses = λ M. in-c.shellwaltz_write.clauses; routine = in-c.shellwaltz_write.Symbol.routine }
+
+abbrev pub c-release : Function
+c-release =
+    record { ended = in-c.shellwaltz_release.ended; clauses = λ M. in-c.shellwaltz_release.clauses; routine = in-c.shellwaltz_release.Symbol.routine }
+
+-- ---- the records of a script
+abbrev pub script-geometry : Function
+script-geometry =
+    record { ended = records.script_geometry.ended; clauses = λ M. records.script_geometry.clauses; routine = records.script_geometry.Symbol.routine }
+
+abbrev pub record-of : Function
+record-of = record { ended = records.record_of.ended; clauses = λ M. records.record_of.clauses; routine = records.record_of.Symbol.routine }
+
+abbrev pub other : Function
+other = record { ended = records.other.ended; clauses = λ M. records.other.clauses; routine = records.other.Symbol.routine }
+
+abbrev pub carry-out : Function
+carry-out = record { ended = records.carry_out.ended; clauses = λ M. records.carry_out.clauses; routine = records.carry_out.Symbol.routine }
+
+pub record EveryContract : Type 2 where
+  pub of-number : Determined number
+  pub of-format : Determined format
+  pub of-check : Determined check
+  pub of-report : Determined report
+  pub of-read : Determined read
+  pub of-write : Determined write
+  pub of-release : Determined release
+  pub of-c-format : Determined c-format
+  pub of-c-check : Determined c-check
+  pub of-c-report : Determined c-report
+  pub of-c-read : Determined c-read
+  pub of-c-write : Determined c-write
+  pub of-c-release : Determined c-release
+  pub of-script-geometry : Determined script-geometry
+  pub of-record-of : Determined record-of
+  pub of-other : Determined other
+  pub of-carry-out : Determined carry-out
