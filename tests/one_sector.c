@@ -1,4 +1,4 @@
-/* Document 01's case at (8,16,90): sector 0 is written 106 times on a fresh image. 105 writes fill blocks 0 to 6 and erase nothing. The
+/* A case of docs/FORMAT.md (Figures) at (8,16,90): sector 0 is written 106 times on a fresh image. 105 writes fill blocks 0 to 6 and erase nothing. The
  * 106th has to reclaim: it copies nothing, erases block 0 and lands in slot 0 of block 7, with 134 words and 1 erasure.
  *
  * The library and the second implementation do each write, and both images are compared word by word after it. */

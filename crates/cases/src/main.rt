@@ -1,6 +1,6 @@
-// Runs cases of document 01 over the calls at (8,16,90) and prints what they answer, a line each: an image that breaks one
-// rule alone and the sound one beside it, the session of four records, sector 0 written 106 times, and the victim's count
-// on either side of the ceiling. The file stdout is what the document says of each.
+// Runs cases of docs/FORMAT.md (Figures, The script program, Rules of a well-formed image) over the calls at (8,16,90) and prints what they
+// answer, a line each: an image that breaks one rule alone and the sound one beside it, the session of four records, sector 0 written 106
+// times, and the victim's count on either side of the ceiling. The file stdout is what FORMAT.md says of each.
 use geometry::Geometry;
 use libc::STDOUT_FILENO;
 
