@@ -5,10 +5,11 @@ pub mod Kept
 pub mod Counts
 pub mod Erased
 pub mod Clearing
+pub mod CodeLaws
+pub mod Unused
 pub mod Moving
 pub mod Reclaimed
 pub mod Chosen
 pub mod Written
 pub mod Released
 pub mod Planned
-pub mod CodeLaws

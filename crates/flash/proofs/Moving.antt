@@ -26,6 +26,7 @@ use Rattle.flash.specs.Placing.{placing}
 use Rattle.flash.specs.Writing.{Copied, copiedSlot, copying, FoundInPlace}
 use Rattle.flash.proofs.Stores.{run-append, asked-append, words-append, erasures-append}
 use Rattle.flash.proofs.Counts.{placing-erasures}
+use Rattle.flash.proofs.Unused.{SparesUnused, spares-none, spares-append, placing-spares}
 use Rattle.flash.proofs.Filling.{Ready, Target}
 use Rattle.flash.proofs.Placed.{Placed, Bounds, placing-exact, placing-placed, placing-bounds, placing-cost, placing-shaped, placing-words32}
 use Rattle.flash.proofs.Kept.{not-live, other-place, free-as-before, live-before, only-here, placed-sound, placed-here, placed-other}
@@ -49,6 +50,7 @@ module _
       pub ready : Ready geo (so-far st)
       pub words : wordsIn (st .steps) ≡ 133 * st .taken
       pub erasures : erasuresIn (st .steps) ≡ 0
+      pub spares : SparesUnused geo (st .steps)
       pub taken : st .taken ≡ countBelow m lives
       pub counts : (c : ℕ) → c < geo .blocks → eraseCount geo (so-far st) c ≡ eraseCount geo image c
       pub later : (j : ℕ) → m ≤ j → j < d geo → slot geo (so-far st) v j ≡ slot geo image v j
@@ -66,6 +68,7 @@ module _
           ready = start;
           words = refl;
           erasures = refl;
+          spares = spares-none geo;
           taken = refl;
           counts = λ c l. refl;
           later = λ j l h. refl;
@@ -85,6 +88,7 @@ module _
           ready = h .ready;
           words = h .words;
           erasures = h .erasures;
+          spares = h .spares;
           taken = omega (arith, h .taken, ap one-if (sym (ap isLive (h .later m (omega arith) l)) ∙ none));
           counts = h .counts;
           later = λ j q r. h .later j (omega arith) r;
@@ -227,6 +231,9 @@ module _
             ready = rw same-image ready-after;
             words = omega (arith, words-append (st .steps) more, h .words, cost);
             erasures = omega (arith, erasures-append (st .steps) more, h .erasures, placing-erasures geo now n ws t (st .taken));
+            spares =
+                spares-append geo (st .steps) more (h .spares)
+                (placing-spares geo (start .shaped .limits) now n ws t (st .taken) (omega (arith, room)));
             taken = omega (arith, h .taken, was-live);
             counts = λ c q. rw same-image (p .counts c q ∙ h .counts c q);
             later = λ j q r.

@@ -20,6 +20,7 @@ use Rattle.flash.proofs.Stores.{run-append, asked-append, words-append,
 use Rattle.flash.proofs.Filling.{Ready}
 use Rattle.flash.proofs.Moving.{Moved, moved}
 use Rattle.flash.proofs.Clearing.{erases-append, erases-none}
+use Rattle.flash.proofs.Unused.{SparesUnused, spares-append, erasing-spares}
 use Rattle.flash.proofs.Erased.{erasing-asked, wiped-count, wiped-count-other, wiped-slot, wiped-free, wiped-map, wiped-ready}
 
 -- what the reclaim of v into t leaves, by these steps
@@ -29,6 +30,7 @@ pub record Reclaimed (geo : Geometry) (image : Image) (v t : ℕ) (steps : List 
   pub words : wordsIn steps ≡ 133 * liveSlots geo image v + 1
   pub erasures : erasuresIn steps ≡ 1
   pub which : (b : ℕ) → erasesBlock steps b ≡ true → b ≡ v
+  pub spares : SparesUnused geo steps
   pub count : eraseCount geo (run geo image steps) v ≡ eraseCount geo image v + 1
   pub counts : (c : ℕ) → c < geo .blocks → c ≢ v → eraseCount geo (run geo image steps) c ≡ eraseCount geo image c
   pub emptied : (j : ℕ) → j < d geo → slot geo (run geo image steps) v j ≡ Free
@@ -94,6 +96,7 @@ module _
           words = omega (arith, words-append (copied .steps) (erasing geo image v), two-steps .0, m .words, taken);
           erasures = omega (arith, erasures-append (copied .steps) (erasing geo image v), two-steps .1, m .erasures);
           which = λ b e. one-block b (erases-append (copied .steps) (erasing geo image v) b) e;
+          spares = spares-append geo (copied .steps) (erasing geo image v) (m .spares) (erasing-spares geo (start .shaped .limits) image v);
           count = rw after (wiped-count geo copy (m .ready) v count victim-in fits);
           counts = λ c l n. rw after (wiped-count-other geo copy (m .ready) v count victim-in fits c n ∙ m .counts c l);
           emptied = λ j l. rw after (wiped-free geo copy (m .ready) v count victim-in fits j l);

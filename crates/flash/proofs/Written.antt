@@ -27,6 +27,7 @@ use Rattle.flash.specs.Writing.{FoundInPlace, filling, mustReclaim, recl
 use Rattle.flash.proofs.Stores.{run-append, asked-append, words-append, erasures-append}
 use Rattle.flash.proofs.Clearing.{erases-append, erases-none}
 use Rattle.flash.proofs.Counts.{placing-erasures, filling-erases-nothing}
+use Rattle.flash.proofs.Unused.{SparesUnused, spares-append, placing-spares}
 use Rattle.flash.proofs.Filling.{Ready, Target}
 use Rattle.flash.proofs.Placed.{Placed, placing-exact, placing-placed, placing-bounds, placing-cost, placing-shaped, placing-words32}
 use Rattle.flash.proofs.Kept.{free-as-before, placed-sound, placed-here, placed-other, placed-free}
@@ -55,6 +56,7 @@ pub record Wrote (geo : Geometry) (image : Image) (n : ℕ) (ws : List ℕ) (v :
   pub free : freeIn geo (run geo image steps) + 1 ≡ freeIn geo image + erasuresIn steps * deadSlots geo image v
   pub gain : erasuresIn steps ≡ 1 → g geo ≤ deadSlots geo image v
   pub which : (b : ℕ) → erasesBlock steps b ≡ true → (erasuresIn steps ≡ 1) × (b ≡ v)
+  pub spares : SparesUnused geo steps
   pub low : erasuresIn steps ≡ 1 → freeIn geo image ≡ d geo
 
 -- what is written: a number and a sector
@@ -130,6 +132,7 @@ module _ (geo : Geometry) (image : Image) (n : ℕ) (ws : List ℕ) (start : Rea
         worn = sum-ext (geo .blocks) (λ x l. p .counts x l) ∙ omega (arith, none);
         free = rw none (omega (arith, paid));
         gain = λ e. absurd (omega (arith, none));
+        spares = placing-spares geo within image n ws b i (c .chosen .slot-of);
         which = λ x e. absurd (true≢false (sym e ∙ erases-none (placing geo image n ws b i) none x));
         low = λ e. absurd (omega (arith, none));
       }
@@ -307,6 +310,7 @@ module _
             free = rw (same-image, once) (omega (arith, gained, rw placed at (w .free)));
             gain = λ e. victim-is .dead;
             which = λ b e. (once, one-block b (erases-append first second b) e);
+            spares = spares-append geo first second (r .spares) (w .spares);
             low = λ e. free-is-a-block geo image (start .sound) limits none-open one-blank;
           }
 

@@ -47,6 +47,12 @@ erasuresIn [] = 0
 erasuresIn (Program p w ∷ ss) = erasuresIn ss
 erasuresIn (Erase b ∷ ss) = suc (erasuresIn ss)
 
+-- some step programs the word at place p
+unfoldable pub programsWord : List Step → ℕ → Bool
+programsWord [] p = false
+programsWord (Program q w ∷ ss) p = eqb q p || programsWord ss p
+programsWord (Erase b ∷ ss) p = programsWord ss p
+
 -- some step erases block b
 unfoldable pub erasesBlock : List Step → ℕ → Bool
 erasesBlock [] b = false

@@ -1,13 +1,14 @@
 -- The further promises hold: each statement of specs/Properties.antt. Assumes nothing.
 use mathlib.Core.Path.{_≡_, refl, sym, _∙_}
-use mathlib.Core.Bool.{true}
-use mathlib.Core.List.{List}
+use mathlib.Core.Bool.{true, false}
+use mathlib.Core.List.{List, []}
 use mathlib.Core.Option.{some, none}
 use Prim.Native.Nat.{ℕ}
 use native.Mathlib.Omega.{arith}
 use lib.ListN.{length}
 use Rattle.ranges.proofs.Tests.{both-pass}
 use Rattle.geometry.specs.declared.Geometry.{Geometry}
+use Rattle.geometry.specs.Places.{place}
 use Rattle.image.specs.declared.Found.{Found}
 use Rattle.image.specs.declared.Found.the-variants.{At, Nothing}
 use Rattle.image.specs.Words.{Image, contents}
@@ -16,16 +17,19 @@ use Rattle.image.specs.WellFormed.{R6, sound, wellFormed}
 use Rattle.image.proofs.Capacity.{image-parts, live-at-most}
 use Rattle.image.proofs.Facts.{sound-facts}
 use Rattle.image.proofs.Finding.{live-found, map-at, map-nothing}
-use Rattle.flash.specs.Steps.{run}
+use Rattle.flash.specs.Steps.{run, programsWord}
 use Rattle.flash.specs.Placing.{releasing}
 use Rattle.flash.specs.Writing.{writing}
 use Rattle.flash.proofs.Counts.{placing-words}
-use Rattle.shellwaltz.specs.Refusals.{checkAnswer, readAnswer}
-use Rattle.shellwaltz.specs.Calls.{fresh, formatted, totalsOf, noTotals, reported, readBuffer}
-use Rattle.promises.specs.Properties.{TheOneSlot, FormatMakesAFreshImage, ReportAddsUp, OthersReadAsBefore, PlacingCosts, WearAndFreeSlots}
+use Rattle.flash.proofs.Unused.{spares-none, releasing-spares}
+use Rattle.shellwaltz.specs.declared.Answer.the-variants.{Accepted}
+use Rattle.shellwaltz.specs.Refusals.{checkAnswer, readAnswer, writeAnswer, releaseAnswer}
+use Rattle.shellwaltz.specs.Calls.{fresh, formatted, totalsOf, noTotals, reported, readBuffer, writeSteps, releaseSteps}
+use Rattle.promises.specs.Properties.{TheOneSlot, FormatMakesAFreshImage, ReportAddsUp, OthersReadAsBefore, UnusedWordsAreNotProgrammed, PlacingCosts, WearAndFreeSlots}
 use Rattle.promises.proofs.Accepted.{check-accepted, format-accepted, ready-formed, write-accepted, write-steps, write-wrote, release-accepted, release-steps, release-blank, release-released}
 use Rattle.promises.proofs.Fresh.{fresh-formed, fresh-map, fresh-frees, fresh-worn}
-use Rattle.shellwaltz.proofs.Rows.{if-accepted}
+use Rattle.shellwaltz.proofs.Rows.{if-accepted, if-refused}
+use Rattle.promises.proofs.Given.{accepted?}
 use Rattle.shellwaltz.proofs.CallLaws.{formed-ready}
 
 pub the-one-slot : TheOneSlot
@@ -104,6 +108,26 @@ others-read-as-before geo image n m buffer handed words given x = (
       (r .ready .shaped .long ∙ sym (rows .0 .long)) (rows .1)
       (ready-formed geo (run geo image (releasing geo image n)) (r .ready) (r .still-blank ∙ release-blank geo image n words accepted)) (r .other m x)),
 )
+
+pub unused-words-are-not-programmed : UnusedWordsAreNotProgrammed
+unfolding writeSteps releaseSteps
+unused-words-are-not-programmed geo image n b j buffer words given unused = (
+  write-spares (accepted? (writeAnswer geo image n buffer)),
+  release-spares (accepted? (releaseAnswer geo image n)),
+)
+  where
+    write-spares : Dec (writeAnswer geo image n buffer ≡ Accepted) → programsWord (writeSteps geo image n buffer) (place geo b j) ≡ false
+    write-spares (yes accepted) =
+        rw (write-steps geo image n buffer words given accepted) (write-wrote geo image n buffer words given accepted .spares b j unused)
+    write-spares (no refused) =
+        rw (if-refused (writeAnswer geo image n buffer) (writing geo image n buffer) [] refused) (spares-none geo b j unused)
+
+    release-spares : Dec (releaseAnswer geo image n ≡ Accepted) → programsWord (releaseSteps geo image n) (place geo b j) ≡ false
+    release-spares (yes accepted) =
+        rw (release-steps geo image n words accepted)
+        (releasing-spares geo (release-accepted geo image n accepted .0 .limits) image n b j unused)
+    release-spares (no refused) =
+        rw (if-refused (releaseAnswer geo image n) (releasing geo image n) [] refused) (spares-none geo b j unused)
 
 pub placing-costs : PlacingCosts
 placing-costs geo image n ws b i = placing-words geo image n ws b i

@@ -4,21 +4,22 @@ use mathlib.Core.Path.{_≡_}
 use mathlib.Core.Logic.{_≢_}
 use mathlib.Core.List.{List}
 use mathlib.Core.Option.{some, none}
-use mathlib.Core.Bool.{true}
+use mathlib.Core.Bool.{true, false}
 use Prim.Native.Nat.{ℕ, _+_, _*_, _≤_, _<_}
 use Rattle.ranges.specs.Range.{one-if, sumBelow}
 use Rattle.geometry.specs.declared.Geometry.{Geometry}
 use Rattle.geometry.specs.Geometry.{d, g}
+use Rattle.geometry.specs.Places.{place, Unused}
 use Rattle.image.specs.declared.Slot.the-variants.{Live}
 use Rattle.image.specs.Words.{Image, Words32, eraseCount, contents}
 use Rattle.image.specs.Slots.{slot, find, mapOf, isMapped}
 use Rattle.image.specs.Blocks.{full, freeSlots, deadSlots, victim}
 use Rattle.image.specs.WellFormed.{wellFormed}
-use Rattle.flash.specs.Steps.{run, wordsIn}
+use Rattle.flash.specs.Steps.{run, wordsIn, programsWord}
 use Rattle.flash.specs.Placing.{fillsSlot, placing}
 use Rattle.shellwaltz.specs.declared.Answer.the-variants.{Accepted}
 use Rattle.shellwaltz.specs.Refusals.{formatAnswer, checkAnswer, readAnswer, writeAnswer, releaseAnswer}
-use Rattle.shellwaltz.specs.Calls.{formatted, reported, readBuffer, writeOutcome, written, releaseOutcome, released}
+use Rattle.shellwaltz.specs.Calls.{formatted, reported, readBuffer, writeSteps, releaseSteps, writeOutcome, written, releaseOutcome, released}
 
 -- The map is well defined: on a well-formed image at most one slot is live for a number, and the map gives its contents.
 abbrev pub TheOneSlot : Type 0
@@ -64,6 +65,15 @@ OthersReadAsBefore =
     × (releaseAnswer geo image n ≡ Accepted →
     (readAnswer geo (released geo image n) m handed ≡ readAnswer geo image m handed)
     × (readBuffer geo (released geo image n) m handed ≡ readBuffer geo image m handed))
+
+-- The words that a block leaves unused (FORMAT.md, A block in words) are never programmed: no step of a write or a release asks for one.
+abbrev pub UnusedWordsAreNotProgrammed : Type 0
+UnusedWordsAreNotProgrammed =
+    (geo : Geometry) (image : Image) (n b j : ℕ) (buffer : List ℕ) →
+    Words32 image →
+    Words32 buffer →
+    Unused geo j →
+    (programsWord (writeSteps geo image n buffer) (place geo b j) ≡ false) × (programsWord (releaseSteps geo image n) (place geo b j) ≡ false)
 
 -- What placing n in slot i of block b costs, whatever the image: 131 words, 2 more where n was mapped, 2 more where this leaves no slot of
 -- the block free. So 131, 133, 133 or 135.
