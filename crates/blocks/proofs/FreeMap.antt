@@ -9,11 +9,11 @@ use lib.Dec.{eqb}
 use borrow.Author.Tests.{eq-eqb, ne-eqb}
 use lib.ListN.{length}
 use Rattle.ranges.specs.Range.{one-if, sumBelow, countBelow}
-use Rattle.ranges.proofs.Tests.{below-suc, all-at}
+use Rattle.ranges.proofs.Tests.{below-suc, all-at, all-of}
 use Rattle.ranges.proofs.Sums.{sum-cut, count-le, count-ext, count-every}
 use Rattle.ranges.proofs.Searches.{best-le, best-passes, best-none, first-before, first-is}
 use Rattle.bits.specs.Word.{ones, isSet, lowestSet, setBits}
-use Rattle.bits.proofs.Bit.{bit-set, ones-bit, bits-same}
+use Rattle.bits.proofs.Bit.{bit-set, set-bit, ones-bit, bits-same}
 use Rattle.geometry.specs.declared.Geometry.{Geometry}
 use Rattle.geometry.specs.Geometry.{d, k, Limits}
 use Rattle.geometry.specs.Places.{place, mapWord}
@@ -22,7 +22,16 @@ use Rattle.image.specs.Words.{Image, Shaped, word, freeMap, mapBit}
 use Rattle.image.specs.Slots.{slot, isFree}
 use Rattle.image.specs.Blocks.{blank, isOpen, freeSlots, lowestFree}
 use Rattle.image.specs.WellFormed.{R2, MapsAgree}
-use Rattle.image.proofs.Reading.{map-inside, map-says, map-rest, blank-count, open-count}
+use Rattle.image.proofs.Reading.{map-inside, map-says, map-rest, open-count}
+
+-- a sum over one, or over two
+sum-one : {n : ℕ} (f : ℕ → ℕ) → n ≡ 1 → sumBelow n f ≡ f 0
+unfolding sumBelow
+sum-one f one = rw one (omega arith)
+
+sum-two : {n : ℕ} (f : ℕ → ℕ) → n ≡ 2 → sumBelow n f ≡ f 0 + f 1
+unfolding sumBelow
+sum-two f two = rw two (omega arith)
 
 module _ (geo : Geometry) (image : Image) (b base : ℕ) (starts : base ≡ place geo b (mapWord 0)) where
   -- each of the k words lies in the image
@@ -63,22 +72,57 @@ module _ (geo : Geometry) (image : Image) (b base : ℕ) (starts : base ≡ plac
       (count-ext (d geo) (map-says geo image b agrees))
       (count-every rest (λ i l. map-rest geo image b agrees (d geo + i) (omega arith) (omega arith)))
 
-  -- the first map word of a blank block is all ones
-  pub blank-first :
-      Limits geo → R2 geo image b ≡ true → word image base < 2 ^ 32 → blank geo image b ≡ true → word image base ≡ ones
+  -- of one word, or of two
+  pub ones-of-one :
+      Limits geo →
+      R2 geo image b ≡ true →
+      k geo ≡ 1 →
+      setBits (word image base) ≡ freeSlots geo image b + (k geo * 32 - d geo)
+  ones-of-one limits agrees one =
+      let first : base + 0 ≡ base = omega arith in
+      rw first at (sym (sum-one (λ j. setBits (word image (base + j))) one) ∙ ones-of-map limits agrees)
+
+  pub ones-of-two :
+      Limits geo →
+      R2 geo image b ≡ true →
+      k geo ≡ 2 →
+      setBits (word image base) + setBits (word image (base + 1)) ≡ freeSlots geo image b + (k geo * 32 - d geo)
+  ones-of-two limits agrees two =
+      let first : base + 0 ≡ base = omega arith in
+      rw first at (sym (sum-two (λ j. setBits (word image (base + j))) two) ∙ ones-of-map limits agrees)
+
+  -- each map word of a blank block is all ones
+  pub blank-word :
+      R2 geo image b ≡ true →
+      (m : ℕ) →
+      m < k geo →
+      word image (base + m) < 2 ^ 32 →
+      blank geo image b ≡ true →
+      word image (base + m) ≡ ones
   unfolding blank
-  blank-first limits agrees small every =
-      bits-same 32 (word image base) ones small (omega arith) (λ j l. bit-set _ j (set j l) ∙ sym (ones-bit 32 j l))
+  blank-word agrees m h small every =
+      bits-same 32 (word image (base + m)) ones small (omega arith) (λ j l. bit-set _ j (set j l) ∙ sym (ones-bit 32 j l))
     where
-      set : (j : ℕ) → j < 32 → isSet (word image base) j ≡ true
-      set j l =
-          let at : 0 * 32 + j ≡ j = omega arith in
-          let first : base + 0 ≡ base = omega arith in
-          sym (rw (at, first) at (word-bit 0 j l)) ∙ go (decLt j (d geo))
+      set : (j : ℕ) → j < 32 → isSet (word image (base + m)) j ≡ true
+      set j l = sym (word-bit m j l) ∙ go (decLt (m * 32 + j) (d geo))
         where
-          go : Dec (j < d geo) → mapBit geo image b j ≡ true
-          go (yes h) = map-says geo image b agrees j h ∙ all-at (d geo) _ every j h
-          go (no h) = map-rest geo image b agrees j (omega arith) (omega (arith, map-covers geo limits, limits .sectors-low))
+          go : Dec (m * 32 + j < d geo) → mapBit geo image b (m * 32 + j) ≡ true
+          go (yes t) = map-says geo image b agrees (m * 32 + j) t ∙ all-at (d geo) _ every (m * 32 + j) t
+          go (no t) = map-rest geo image b agrees (m * 32 + j) (omega arith) (omega arith)
+
+  -- and a block is blank where each is
+  pub blank-words :
+      Limits geo → R2 geo image b ≡ true → ((m : ℕ) → m < k geo → word image (base + m) ≡ ones) → blank geo image b ≡ true
+  unfolding blank
+  blank-words limits agrees every =
+      all-of (d geo)
+      (λ i l.
+      let at : i ≡ i / 32 * 32 + i % 32 = omega arith in
+      sym (map-says geo image b agrees i l)
+      ∙ ap (mapBit geo image b) at
+      ∙ word-bit (i / 32) (i % 32) (omega arith)
+      ∙ ap (λ (w : ℕ). isSet w (i % 32)) (every (i / 32) (omega (arith, map-covers geo limits)))
+      ∙ set-bit ones (i % 32) (ones-bit 32 (i % 32) (omega arith)))
 
   -- where no bit of the words before m is set, no slot before word m's lowest set bit is free
   none-before :
@@ -141,10 +185,6 @@ may-count {b = b} (shaped, maps) l = (shaped, (l, maps .agrees b l))
 
 -- blank and open by the two numbers that the code compares: a block's free slots, and d
 module _ (geo : Geometry) (image : Image) (b free slots : ℕ) (counts : free ≡ freeSlots geo image b) (size : slots ≡ d geo) where
-  -- all slots are free in a blank block alone
-  pub blank-by : blank geo image b ≡ eqb free slots
-  blank-by = blank-count geo image b ∙ sym (ap₂ eqb counts size)
-
   open-by : isOpen geo image b ≡ (not (eqb free slots) && not (eqb free 0))
   open-by = open-count geo image b ∙ sym (ap₂ (λ (f n : ℕ). not (eqb f n) && not (eqb f 0)) counts size)
 

@@ -33,7 +33,8 @@ pub fn tally(image: &[u32], geo: Geometry, b: usize) -> Tally
     let mut free = 0u32;
     let mut live = 0u32;
     let mut dead = 0u32;
-    for i in 0..d {
+    let mut i = 0usize;
+    loop {
         match slot_of(logical, image[base + i]) {
             Slot::Free => {
                 free += 1;
@@ -45,6 +46,10 @@ pub fn tally(image: &[u32], geo: Geometry, b: usize) -> Tally
                 dead += 1;
             }
             Slot::Faulty => {}
+        }
+        i += 1;
+        if i == d {
+            break;
         }
     }
     Tally { free, live, dead }
@@ -60,9 +65,9 @@ pub fn free_slots(image: &[u32], geo: Geometry, b: usize) -> usize
     let d = geo.d();
     let k = geo.k();
     let base = geo.map_start(b);
-    let mut total = 0usize;
-    for m in 0..k {
-        total += bits::count_set(image[base + m]) as usize;
+    let mut total = bits::count_set(image[base]) as usize;
+    if 1 < k {
+        total += bits::count_set(image[base + 1]) as usize;
     }
     total - (k * 32 - d)
 }
@@ -109,18 +114,25 @@ pub fn lowest_open(image: &[u32], geo: Geometry) -> usize
     blocks
 }
 
-// Whether block b is blank. Its first map word tells of most blocks that they are not.
+// Whether block b is blank: then, by R2, every word of its map is all ones. The map has a word at least, so the loop asks last.
 fn is_blank(image: &[u32], geo: Geometry, b: usize) -> bool
     requires { ⌜ Shaped geo (now image) ⌝ }
     requires { ⌜ b < geo .blocks ⌝ }
     requires { ⌜ R2 geo (now image) b ≡ true ⌝ }
     ensures { λ r. ⌜ r ≡ blank geo (now (image .entry)) b ⌝ }
 {
-    let map = geo.map_start(b);
-    if image[map] != 0xFFFF_FFFF {
-        return false;
+    let k = geo.k();
+    let base = geo.map_start(b);
+    let mut m = 0usize;
+    loop {
+        if image[base + m] != 0xFFFF_FFFF {
+            return false;
+        }
+        m += 1;
+        if m == k {
+            return true;
+        }
     }
-    free_slots(image, geo, b) == geo.d()
 }
 
 // How many blocks are blank.

@@ -18,7 +18,7 @@ use Rattle.blocks.proofs.tally.Tie as tie
 
 abbrev Inv-loop : tie.InvT-loop
 Inv-loop image b d logical base free₀ live₀ dead₀ i₀ free live dead i =
-    (i ≤ d)
+    (i < d)
     × (free + live + dead ≤ i)
     × (free ≡ countBelow i (λ j. isFree (slotFrom image logical base j)))
     × (live ≡ countBelow i (λ j. isLive (slotFrom image logical base j)))
@@ -34,13 +34,12 @@ unfolding sumBelow
 more kind f i passed this grown = rw (add-one, ← this, ← passed) grown
 
 -- the entry of this turn lies in the image
-inside : (c : tie.In-loop Inv-loop μ-loop) →
-    let entries = c .before .before in
-    let start = entries .before .before .before in
-    entries .entries-start .result + c .before .loop .i < length (start .args .image .now)
+inside : (c : tie.At-loop Inv-loop μ-loop) →
+    let start = c .before .before .before .before in
+    c .before .entries-start .result + c .loop .i < length (start .args .image .now)
 inside c =
-    let start = c .before .before .before .before .before in
-    omega (arith, entry-inside _ _ (start .pre .0) {i = c .before .loop .i} (start .pre .1) (omega arith))
+    let start = c .before .before .before .before in
+    omega (arith, entry-inside _ _ (start .pre .0) {i = c .loop .i} (start .pre .1) (omega arith))
 
 -- the slots as the code reads them
 abbrev slots : (c : tie.At-loop Inv-loop μ-loop) → ℕ → Slot
@@ -51,7 +50,7 @@ slots c =
 -- each count grows by what its kind says of the slot of this turn, one of them at most
 grown : (c : tie.At-match-came Inv-loop μ-loop) →
     let s = c .before .slot-of .result in
-    let l = c .before .before .before .before .loop in
+    let l = c .before .before .before .loop in
     (c .match .free + c .match .live + c .match .dead ≤ l .free + l .live + l .dead + 1)
     × (c .match .free ≡ l .free + one-if (isFree s))
     × (c .match .live ≡ l .live + one-if (isLive s))
@@ -115,39 +114,49 @@ add-i c = search needs
 loop-less : tie.Need-loop-less Inv-loop μ-loop
 loop-less c = search needs
 
-loop-again : tie.Need-loop-again Inv-loop μ-loop
-loop-again c =
-    let turn = c .before .before .before .before in
+-- after this turn: each count is over the slots passed and this one
+counted : (c : tie.At-match-came Inv-loop μ-loop) →
+    let turn = c .before .before .before in
+    let end = turn .loop .i + 1 in
+    (c .match .free ≡ countBelow end (λ j. isFree (slots turn j)))
+    × (c .match .live ≡ countBelow end (λ j. isLive (slots turn j)))
+    × (c .match .dead ≡ countBelow end (λ j. isDead (slots turn j)))
+counted c =
+    let turn = c .before .before .before in
     let v = turn .loop .inv in
     let s = c .before .slot-of .ensures in
     let g = grown c in (
-      omega arith,
-      omega arith,
       more isFree (slots turn) (turn .loop .i) (v .2) s (g .1),
       more isLive (slots turn) (turn .loop .i) (v .3) s (g .2),
       more isDead (slots turn) (turn .loop .i) (v .4) s (g .3),
     )
 
+loop-again : tie.Need-loop-again Inv-loop μ-loop
+loop-again c =
+    let g = grown (c .before) in
+    let e = counted (c .before) in
+    (omega arith, omega arith, e .0, e .1, e .2)
+
 -- at the end each count is over the slots of the block
-all : (c : tie.After-loop Inv-loop μ-loop) (kind : Slot → Bool) →
-    let start = c .before .before .before .before .before in
+all : (c : tie.Then1 Inv-loop μ-loop) (kind : Slot → Bool) →
+    let turn = c .before .before .before .before in
+    let start = turn .before .before .before .before in
     let geo = start .args .geo in
     let image = start .args .image .now in
-    countBelow (c .before .loop .i) (λ j. kind (slots (c .before) j))
-    ≡ countBelow (d geo) (λ j. kind (slot geo image (start .args .b) j))
+    countBelow (turn .loop .i + 1) (λ j. kind (slots turn j)) ≡ countBelow (d geo) (λ j. kind (slot geo image (start .args .b) j))
 all c kind =
-    let start = c .before .before .before .before .before in
+    let turn = c .before .before .before .before in
+    let start = turn .before .before .before .before in
     let geo = start .args .geo in
     let image = start .args .image .now in
-    let end : c .before .loop .i ≡ d geo = omega arith in
+    let end : turn .loop .i + 1 ≡ d geo = omega arith in
     rw end
-    (count-ext (d geo)
-    (λ j l. ap kind (slot-read geo image (start .args .b) j (c .before .before .entries-start .result + j) (omega arith))))
+    (count-ext (d geo) (λ j l. ap kind (slot-read geo image (start .args .b) j (turn .before .entries-start .result + j) (omega arith))))
 
 returns : tie.Need-returns Inv-loop μ-loop
 returns c =
-    let v = c .before .loop .inv in
-    rw (v .2 ∙ all c isFree, v .3 ∙ all c isLive, v .4 ∙ all c isDead)
+    let e = counted (c .before) in
+    rw (e .0 ∙ all c isFree, e .1 ∙ all c isLive, e .2 ∙ all c isDead)
 
 pub tally-spec : {M : Type 1} → statement M
 tally-spec =
