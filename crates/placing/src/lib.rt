@@ -1,13 +1,14 @@
 // Placing a sector in a slot, (a) to (g), and releasing one.
+ghost use mathlib.Core.Bool.{not};
 ghost use mathlib.Core.Path.{_≡_};
 ghost use Prim.Native.Nat.{_<_};
 ghost use lib.ListN.{length};
 ghost use Rattle.geometry.specs.Geometry.{d, sectorWords};
 ghost use Rattle.image.specs.Words.{Shaped};
 ghost use Rattle.image.specs.Slots.{find};
+ghost use Rattle.image.specs.Blocks.{full};
 ghost use Rattle.flash.specs.Steps.{run, wordsIn};
 ghost use Rattle.flash.specs.Placing.{InImage, entryAt, programsEntry, takesSlot, storesContents, liveBounds, closesBlock, placing, releasing};
-use blocks::tally;
 use flash::LiveBounds;
 use flash::steps::program;
 use geometry::Geometry;
@@ -69,7 +70,7 @@ fn store_contents(image: &mut [u32], geo: Geometry, b: usize, i: usize, words: &
     ensures { λ _. ⌜ now (image .exit) ≡ run geo (now (image .entry)) (storesContents geo b i (now (words .entry))) ⌝ }
 {
     let at = geo.contents_start(b, i);
-    for j in 0..128 {
+    for j in 0..words.len() {
         program(image, at + j, words[j]);
     }
 }
@@ -105,6 +106,22 @@ fn live_bounds(image: &[u32], geo: Geometry, b: usize) -> LiveBounds
     LiveBounds { least, greatest }
 }
 
+// Whether some slot of block b is free.
+fn has_free(image: &[u32], geo: Geometry, b: usize) -> bool
+    requires { ⌜ Shaped geo (now image) ⌝ }
+    requires { ⌜ b < geo .blocks ⌝ }
+    ensures { λ r. ⌜ r ≡ not (full geo (now (image .entry)) b) ⌝ }
+{
+    let d = geo.d();
+    let entries = geo.entries_start(b);
+    for i in 0..d {
+        if image[entries + i] == 0xFFFF_FFFF {
+            return true;
+        }
+    }
+    false
+}
+
 // (g): words 1 and 2, if the block has no free slot left. Returns how many words were programmed.
 fn close_block(image: &mut [u32], geo: Geometry, b: usize) -> u32
     requires { ⌜ Shaped geo (now image) ⌝ }
@@ -113,7 +130,7 @@ fn close_block(image: &mut [u32], geo: Geometry, b: usize) -> u32
     ensures { λ r. ⌜ now (image .exit) ≡ run geo (now (image .entry)) (closesBlock geo (now (image .entry)) b) ⌝ }
 {
     let start = geo.start(b);
-    if tally(image, geo, b).free != 0 {
+    if has_free(image, geo, b) {
         return 0;
     }
     let live = live_bounds(image, geo, b);

@@ -1,15 +1,13 @@
--- `placing::close_block` meets its contract: where the tally has no free slot the block is full, and the two bounds are programmed.
+-- `placing::close_block` meets its contract: where no slot is free the block is full, and the two bounds are programmed.
+use mathlib.Core.Bool.{not, Bool·not-not}
 use mathlib.Core.List.{[], _∷_}
 use mathlib.Core.Path.{_≡_, refl, sym, ap, _∙_}
 use Prim.Native.Nat.{_+_, _<_}
 use native.Mathlib.Omega.{arith}
-use lib.Dec.{eqb}
 use lib.ListN.{length}
 use borrow.Author.Needs.{needs}
-use borrow.Author.Tests.{eq-eqb, ne-eqb}
-use Rattle.image.specs.declared.Tally.{Tally}
 use Rattle.image.specs.Blocks.{full}
-use Rattle.image.proofs.Reading.{block-room, full-count}
+use Rattle.image.proofs.Reading.{block-room}
 use Rattle.flash.specs.declared.LiveBounds.{LiveBounds}
 use Rattle.flash.specs.Steps.{run, wordsIn}
 use Rattle.flash.specs.Placing.{closesBlock}
@@ -17,11 +15,13 @@ use Rattle.flash.proofs.CodeLaws.{run-program, run-then}
 use Rattle.placing.proofs.close_block.Statement.{statement}
 use Rattle.placing.proofs.close_block.Tie as tie
 
--- what the tally says of the block
-full-here : (c : tie.After-tally) →
+-- whether the block is full
+full-here : (c : tie.After-has-free) →
     let start = c .before .before .before .before in
-    full (start .args .geo) (start .args .image .now) (start .args .b) ≡ eqb (c .tally .result .free) 0
-full-here c = full-count _ _ _ ∙ sym (ap (λ (t : Tally). eqb (t .free) 0) (c .tally .ensures))
+    full (start .args .geo) (start .args .image .now) (start .args .b) ≡ not (c .has-free .result)
+full-here c =
+    let start = c .before .before .before .before in
+    sym (ap not (c .has-free .ensures) ∙ Bool·not-not (full (start .args .geo) (start .args .image .now) (start .args .b)))
 
 -- words 1 and 2 lie in the image
 inside : (c : tie.After-start) →
@@ -34,17 +34,15 @@ inside c =
 start-requires : tie.Need-start-requires
 start-requires c κs = search needs
 
-tally-requires : tie.Need-tally-requires
-tally-requires c κs = search needs
+has-free-requires : tie.Need-has-free-requires
+has-free-requires c κs = search needs
 
 same-length : tie.Need-same-length
 same-length c = search needs
 
 returns : tie.Need-returns
 unfolding closesBlock run wordsIn
-returns c =
-    let tallied = c .before .before in
-    rw (full-here tallied ∙ ne-eqb (tallied .tally .result .free) 0 (omega (arith, c .if1 .taken))) (refl, refl)
+returns c = rw (full-here (c .before) ∙ ap not (c .if1 .taken)) (refl, refl)
 
 live-bounds-requires : tie.Need-live-bounds-requires
 live-bounds-requires c κs = search needs
@@ -53,7 +51,7 @@ add-program : tie.Need-add-program
 add-program c = search needs
 
 program-requires : tie.Need-program-requires
-program-requires c κs = omega (arith, inside (c .before .before .before .before .before .before .before))
+program-requires c κs = omega (arith, inside (c .before .before .before .before .before .before))
 
 add-program-2 : tie.Need-add-program-2
 add-program-2 c = search needs
@@ -61,7 +59,7 @@ add-program-2 c = search needs
 program-requires-2 : tie.Need-program-requires-2
 program-requires-2 c κs =
     let first = c .before .before .before in
-    omega (arith, inside (first .before .before .before .before .before .before .before .before), first .program .kept .0)
+    omega (arith, inside (first .before .before .before .before .before .before .before), first .program .kept .0)
 
 same-length-2 : tie.Need-same-length-2
 same-length-2 c = search needs
@@ -71,8 +69,8 @@ unfolding closesBlock wordsIn
 returns-2 c =
     let first = c .before .before .before .before .before .before in
     let bounds = first .before .before in
-    let tallied = bounds .before .before .before .before in
-    rw (full-here tallied ∙ eq-eqb (tallied .tally .result .free) 0 (omega (arith, bounds .before .before .if1 .left))) (
+    let other = bounds .before .before in
+    rw (full-here (other .before) ∙ ap not (other .if1 .left)) (
       refl,
       run-then _ _ (_ ∷ []) (_ ∷ [])
           (run-program _ _ (first .program .ensures) (omega arith) (ap (λ (r : LiveBounds). r .least) (bounds .live-bounds .ensures)))
@@ -84,7 +82,7 @@ close-block-spec =
     tie.close
     (tie.spec
     start-requires
-    tally-requires
+    has-free-requires
     same-length
     returns
     live-bounds-requires

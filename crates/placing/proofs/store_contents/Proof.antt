@@ -35,7 +35,7 @@ one-more geo image now after b i words at j e passed stored =
 
 -- The loop does not use the geometry, so the invariant speaks of any in which the contents start where the code has it.
 abbrev Inv-loop : tie.InvT-loop
-Inv-loop image₀ b i words at j₀ image j =
+Inv-loop image₀ b i words at j₀ j-end image j =
     (j ≤ sectorWords)
     × (length image ≡ length image₀)
     × ((geo : Geometry) →
@@ -43,7 +43,7 @@ Inv-loop image₀ b i words at j₀ image j =
     image ≡ run geo image₀ (stores geo b i words j))
 
 abbrev μ-loop : tie.MeasureT-loop
-μ-loop image₀ b i words at j₀ image j = sectorWords - j
+μ-loop image₀ b i words at j₀ j-end image j = sectorWords - j
 
 -- the contents end within the image
 room : (c : tie.After-contents-start Inv-loop μ-loop) →
