@@ -61,13 +61,14 @@ pub fn fill(image: &mut [u32], geo: Geometry, n: u32, words: &[u32]) -> u32
     ensures { λ r. ⌜ now (image .exit) ≡ run geo (now (image .entry)) (filling geo (now (image .entry)) n (now (words .entry))) ⌝ }
 {
     let blocks = geo.blocks as usize;
-    let b = lowest_open(image, geo);
+    let mut b = lowest_open(image, geo);
+    let mut i = 0usize;
     if b < blocks {
-        let i = lowest_free(image, geo, b);
-        return place(image, geo, n, words, b, i);
+        i = lowest_free(image, geo, b);
+    } else {
+        b = least_worn_blank(image, geo);
     }
-    let blank = least_worn_blank(image, geo);
-    place(image, geo, n, words, blank, 0)
+    place(image, geo, n, words, b, i)
 }
 
 // Rule 3 with the victim v, then rule 1 or 2. Returns how many words were programmed; one block was erased.

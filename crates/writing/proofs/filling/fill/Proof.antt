@@ -1,10 +1,15 @@
 -- `writing::filling::fill` meets its contract: the block and the slot that it finds are those of rule 1, or of rule 2 where none is open.
-use mathlib.Core.Path.{ap, _∙_}
-use Prim.Native.Nat.{_<_}
+use mathlib.Core.List.{List}
+use mathlib.Core.Logic.{⊎-elim}
+use mathlib.Core.Path.{_≡_, ap, _∙_}
+use Prim.Native.Nat.{ℕ, _<_}
 use native.Mathlib.Omega.{arith}
 use borrow.Author.Needs.{needs}
+use Rattle.geometry.specs.Geometry.{d}
 use Rattle.geometry.proofs.Laws.{d-positive}
 use Rattle.image.specs.Blocks.{lowestFree}
+use Rattle.flash.specs.Placing.{placing}
+use Rattle.flash.specs.Writing.{filling}
 use Rattle.flash.proofs.Planned.{open-slot, blank-block, filling-open, filling-blank}
 use Rattle.writing.proofs.filling.fill.Statement.{statement}
 use Rattle.writing.proofs.filling.fill.Tie as tie
@@ -21,53 +26,50 @@ lowest-free-requires c κs =
     let block : c .before .before .lowest-open .result < start .args .geo .blocks = omega (arith, c .before .if1 .taken) in
     (start .pre .0, (block, start .pre .1 .0 .agrees _ block))
 
+least-worn-blank-requires : tie.Need-least-worn-blank-requires
+least-worn-blank-requires c κs = search needs
+
+-- the block and the slot, either way: they are in the image, and the steps are those of placing there
+found : (c : tie.Joined1) →
+    let start = c .before .before .before .before .before .before in
+    let geo = start .args .geo in
+    let image = start .args .image .now in
+    (c .if1 .b < geo .blocks)
+    × (c .if1 .i < d geo)
+    × ((n : ℕ) (ws : List ℕ) → filling geo image n ws ≡ placing geo image n ws (c .if1 .b) (c .if1 .i))
+found c =
+    let start = c .before .before .before .before .before .before in
+    let geo = start .args .geo in
+    let image = start .args .image .now in
+    let opened = c .before .lowest-open in
+    ⊎-elim
+    (λ w.
+    let block : opened .result < geo .blocks = omega (arith, w .0 .taken) in
+    let slot-is = w .2 .ensures ∙ ap (lowestFree geo image) (opened .ensures) in
+    let inside = open-slot geo image (omega (arith, opened .ensures)) in
+    rw (w .3, w .4) (block, omega (arith, slot-is, inside), filling-open _ _ (opened .result) (w .2 .result) (opened .ensures) (w .2 .ensures) block))
+    (λ w.
+    let block = blank-block geo image (start .pre .1 .1 .0) in
+    rw (w .3, w .4) (
+      omega (arith, w .2 .ensures),
+      omega (arith, d-positive geo (start .pre .0 .limits)),
+      filling-blank _ _ (w .2 .result) (w .2 .ensures) (omega (arith, opened .ensures, w .0 .left)),
+    ))
+    (c .if1 .came)
+
 place-requires : tie.Need-place-requires
 place-requires c κs =
-    let start = c .before .before .before .before .before .before .before .before .before in
-    let opened = c .before .before .before .before .lowest-open in
-    let block : opened .result < start .args .geo .blocks = omega (arith, c .before .before .before .if1 .taken) in
-    let slot-is = c .before .lowest-free .ensures ∙ ap (lowestFree _ _) (opened .ensures) in
-    let inside = open-slot (start .args .geo) (start .args .image .now) (omega (arith, opened .ensures)) in
-    (start .pre .0, (start .pre .1 .1 .1 .0, (start .pre .1 .1 .1 .1, (block, omega (arith, slot-is, inside)))))
+    let start = c .before .before .before .before .before .before .before in
+    let f = found (c .before) in
+    (start .pre .0, (start .pre .1 .1 .1 .0, (start .pre .1 .1 .1 .1, (f .0, f .1))))
 
 same-length : tie.Need-same-length
 same-length c = search needs
 
 returns : tie.Need-returns
 returns c =
-    let opened = c .before .before .before .before .before .before .before .lowest-open in
-    let slot = c .before .before .before .before .lowest-free in
-    rw
-    (filling-open _ _ (opened .result) (slot .result) (opened .ensures) (slot .ensures) (omega (arith, c .before .before .before .before .before .before .if1 .taken)) _ _)
-    (c .before .before .place .ensures)
-
-least-worn-blank-requires : tie.Need-least-worn-blank-requires
-least-worn-blank-requires c κs = search needs
-
-place-requires-2 : tie.Need-place-requires-2
-place-requires-2 c κs =
-    let start = c .before .before .before .before .before .before .before .before .before in
-    let block = blank-block (start .args .geo) (start .args .image .now) (start .pre .1 .1 .0) in (
-      start .pre .0,
-      (
-        start .pre .1 .1 .1 .0,
-        (
-          start .pre .1 .1 .1 .1,
-          (omega (arith, c .before .least-worn-blank .ensures), omega (arith, d-positive (start .args .geo) (start .pre .0 .limits))),
-        ),
-      ),
-    )
-
-same-length-2 : tie.Need-same-length-2
-same-length-2 c = search needs
-
-returns-2 : tie.Need-returns-2
-returns-2 c =
-    let opened = c .before .before .before .before .before .before .before .lowest-open in
-    let worn = c .before .before .before .before .least-worn-blank in
-    rw
-    (filling-blank _ _ (worn .result) (worn .ensures) (omega (arith, opened .ensures, c .before .before .before .before .before .before .if1 .left)) _ _)
-    (c .before .before .place2 .ensures)
+    let placed = c .before .before in
+    rw (found (placed .before .before) .2 _ _) (placed .place .ensures)
 
 pub fill-spec : {M : Type 1} → statement M
 fill-spec =
@@ -76,10 +78,7 @@ fill-spec =
     cast-blocks
     lowest-open-requires
     lowest-free-requires
+    least-worn-blank-requires
     place-requires
     same-length
-    returns
-    least-worn-blank-requires
-    place-requires-2
-    same-length-2
-    returns-2)
+    returns)
