@@ -24,15 +24,6 @@ use Rattle.image.specs.Blocks.{blank, isOpen, freeSlots, lowestFree}
 use Rattle.image.specs.WellFormed.{R2, MapsAgree}
 use Rattle.image.proofs.Reading.{map-inside, map-says, map-rest, open-count}
 
--- a sum over one, or over two
-sum-one : {n : ℕ} (f : ℕ → ℕ) → n ≡ 1 → sumBelow n f ≡ f 0
-unfolding sumBelow
-sum-one f one = rw one (omega arith)
-
-sum-two : {n : ℕ} (f : ℕ → ℕ) → n ≡ 2 → sumBelow n f ≡ f 0 + f 1
-unfolding sumBelow
-sum-two f two = rw two (omega arith)
-
 module _ (geo : Geometry) (image : Image) (b base : ℕ) (starts : base ≡ place geo b (mapWord 0)) where
   -- each of the k words lies in the image
   pub map-part-inside : Shaped geo image → b < geo .blocks → (m : ℕ) → m < k geo → base + m < length image
@@ -71,25 +62,6 @@ module _ (geo : Geometry) (image : Image) (b base : ℕ) (starts : base ≡ plac
       ∙ ap₂ _+_
       (count-ext (d geo) (map-says geo image b agrees))
       (count-every rest (λ i l. map-rest geo image b agrees (d geo + i) (omega arith) (omega arith)))
-
-  -- of one word, or of two
-  pub ones-of-one :
-      Limits geo →
-      R2 geo image b ≡ true →
-      k geo ≡ 1 →
-      setBits (word image base) ≡ freeSlots geo image b + (k geo * 32 - d geo)
-  ones-of-one limits agrees one =
-      let first : base + 0 ≡ base = omega arith in
-      rw first at (sym (sum-one (λ j. setBits (word image (base + j))) one) ∙ ones-of-map limits agrees)
-
-  pub ones-of-two :
-      Limits geo →
-      R2 geo image b ≡ true →
-      k geo ≡ 2 →
-      setBits (word image base) + setBits (word image (base + 1)) ≡ freeSlots geo image b + (k geo * 32 - d geo)
-  ones-of-two limits agrees two =
-      let first : base + 0 ≡ base = omega arith in
-      rw first at (sym (sum-two (λ j. setBits (word image (base + j))) two) ∙ ones-of-map limits agrees)
 
   -- each map word of a blank block is all ones
   pub blank-word :

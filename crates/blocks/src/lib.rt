@@ -21,7 +21,7 @@ pub fn erase_count(image: &[u32], geo: Geometry, b: usize) -> u32
     image[at]
 }
 
-// The free, live and dead slots of block b, by its entries.
+// The free, live and dead slots of block b, by its entries. A block has a slot at least, so the loop asks last.
 pub fn tally(image: &[u32], geo: Geometry, b: usize) -> Tally
     requires { ⌜ Shaped geo (now image) ⌝ }
     requires { ⌜ b < geo .blocks ⌝ }
@@ -55,7 +55,8 @@ pub fn tally(image: &[u32], geo: Geometry, b: usize) -> Tally
     Tally { free, live, dead }
 }
 
-// The free slots of block b, by a count of ones: the map's words have a one for each, and ones from d on.
+// The free slots of block b, by a count of ones: the map's words have a one for each, and ones from d on. The map has a word at least, so the
+// loop asks last.
 pub fn free_slots(image: &[u32], geo: Geometry, b: usize) -> usize
     requires { ⌜ Shaped geo (now image) ⌝ }
     requires { ⌜ b < geo .blocks ⌝ }
@@ -65,9 +66,14 @@ pub fn free_slots(image: &[u32], geo: Geometry, b: usize) -> usize
     let d = geo.d();
     let k = geo.k();
     let base = geo.map_start(b);
-    let mut total = bits::count_set(image[base]) as usize;
-    if 1 < k {
-        total += bits::count_set(image[base + 1]) as usize;
+    let mut total = 0usize;
+    let mut m = 0usize;
+    loop {
+        total += bits::count_set(image[base + m]) as usize;
+        m += 1;
+        if m == k {
+            break;
+        }
     }
     total - (k * 32 - d)
 }

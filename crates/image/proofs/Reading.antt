@@ -5,8 +5,11 @@ use Prim.Native.Nat.{ℕ, _+_, _*_, _-_, _<_, _≤_}
 use native.Mathlib.Omega.{arith}
 use lib.Dec.{eqb}
 use lib.ListN.{length}
-use Rattle.ranges.proofs.Tests.{both-pass, all-at}
+use borrow.Author.Tests.{eq-eqb, ne-eqb}
+use Rattle.ranges.specs.Range.{anyBelow, firstBelow}
+use Rattle.ranges.proofs.Tests.{both-pass, all-at, none-at}
 use Rattle.ranges.proofs.Sums.{all-count, any-count}
+use Rattle.ranges.proofs.Searches.{best-any, best-none}
 use Rattle.geometry.specs.declared.Geometry.{Geometry}
 use Rattle.geometry.specs.Geometry.{d, k, blockLength, sectorWords}
 use Rattle.geometry.specs.Places.{place, entryWord, mapWord, contentWord}
@@ -14,7 +17,7 @@ use Rattle.geometry.proofs.Laws.{block-inside, place-inside, map-in-block, entr
 use Rattle.image.specs.declared.Slot.{Slot}
 use Rattle.image.specs.Words.{Image, Shaped, word, mapBit, entry}
 use Rattle.image.specs.Slots.{slotOf, slot, isFree, isFreeEntry}
-use Rattle.image.specs.Blocks.{blank, full, isOpen, freeSlots}
+use Rattle.image.specs.Blocks.{blank, full, isOpen, freeSlots, lowestFree}
 use Rattle.image.specs.WellFormed.{mapAgrees, restSet, R2}
 use Rattle.image.proofs.Entries.{free-test}
 
@@ -76,6 +79,18 @@ module _ (geo : Geometry) (image : Image) where
   pub blank-count : (b : ℕ) → blank geo image b ≡ eqb (freeSlots geo image b) (d geo)
   unfolding blank
   blank-count b = all-count (d geo) (λ i. isFree (slot geo image b i))
+
+  -- full by the lowest free slot: there is none
+  pub full-first : (b : ℕ) → full geo image b ≡ eqb (lowestFree geo image b) (d geo)
+  unfolding full lowestFree
+  full-first b = go (anyBelow (d geo) free) refl
+    where
+      free : ℕ → Bool
+      free i = isFree (slot geo image b i)
+
+      go : (x : Bool) → anyBelow (d geo) free ≡ x → not (anyBelow (d geo) free) ≡ eqb (firstBelow (d geo) free) (d geo)
+      go true t = rw t (sym (ne-eqb (firstBelow (d geo) free) (d geo) (λ e. omega (arith, best-any (λ i r. false) (d geo) free t))))
+      go false t = rw t (sym (eq-eqb _ _ (best-none (λ i r. false) (d geo) free (none-at (d geo) free t))))
 
   pub full-count : (b : ℕ) → full geo image b ≡ eqb (freeSlots geo image b) 0
   unfolding full

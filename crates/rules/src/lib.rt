@@ -12,7 +12,7 @@ ghost use Rattle.image.specs.WellFormed.{allOnes, mapAgrees, restSet, outOfBoun
 ghost use Rattle.rules.specs.Marks.{markWords, seen, Marks};
 use blocks::count_blank;
 use blocks::erase_count;
-use blocks::free_slots;
+use blocks::lowest_free;
 use geometry::Geometry;
 use image::Slot;
 use image::slots::slot_of;
@@ -227,7 +227,7 @@ fn rule7(image: &[u32], geo: Geometry, b: usize) -> bool
     ensures { λ r. ⌜ r ≡ R7 geo (now (image .entry)) b ⌝ }
 {
     let start = geo.start(b);
-    if free_slots(image, geo, b) == 0 {
+    if lowest_free(image, geo, b) == geo.d() {
         return live_in_bounds(image, geo, b);
     }
     if image[start + 1] != 0xFFFF_FFFF {

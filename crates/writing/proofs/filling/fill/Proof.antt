@@ -61,7 +61,7 @@ place-requires : tie.Need-place-requires
 place-requires c κs =
     let start = c .before .before .before .before .before .before .before in
     let f = found (c .before) in
-    (start .pre .0, (start .pre .1 .1 .1 .0, (start .pre .1 .1 .1 .1, (f .0, f .1))))
+    (start .pre .0, (start .pre .1 .1 .1 .0, (start .pre .1 .1 .1 .1, (f .0, omega (arith, f .1)))))
 
 same-length : tie.Need-same-length
 same-length c = search needs
