@@ -14,7 +14,7 @@ use Rattle.geometry.specs.Places.{place, eraseWord, leastWord, greatestWord, ma
 abbrev pub Image : Type 0
 Image = List ℕ
 
--- its words are of 32 bits
+-- its words are of 32 bits, as those of every slice are (src/slots.rt, words_in)
 pub record Words32 (ws : List ℕ) : Type 0 where
   pub small : (p : ℕ) → getD ws p 0 < 2 ^ 32
 
