@@ -10,6 +10,7 @@ use Rattle.ranges.specs.Range.{anyBelow, firstBelow}
 use Rattle.ranges.proofs.Tests.{both-pass, all-at, none-at}
 use Rattle.ranges.proofs.Sums.{all-count, any-count}
 use Rattle.ranges.proofs.Searches.{best-any, best-none}
+use Rattle.bits.specs.Word.{ones}
 use Rattle.geometry.specs.declared.Geometry.{Geometry}
 use Rattle.geometry.specs.Geometry.{d, k, blockLength, sectorWords}
 use Rattle.geometry.specs.Places.{place, entryWord, mapWord, contentWord}
@@ -54,6 +55,11 @@ module _ (geo : Geometry) (image : Image) where
   pub free-read : (b i : ℕ) → isFree (slot geo image b i) ≡ isFreeEntry (entry geo image b i)
   unfolding slot
   free-read b i = free-test (geo .logical) (entry geo image b i)
+
+  -- by the word that the code reads
+  pub free-at : (b i p : ℕ) → p ≡ place geo b (entryWord geo i) → isFree (slot geo image b i) ≡ eqb (word image p) ones
+  unfolding entry
+  free-at b i p e = free-read b i ∙ sym (ap (λ (q : ℕ). isFreeEntry (word image q)) e)
 
   -- R2: the map's bit of a slot says whether it is free, and the bits from d on are set
   pub map-says : (b : ℕ) → R2 geo image b ≡ true → (i : ℕ) → i < d geo → mapBit geo image b i ≡ isFree (slot geo image b i)

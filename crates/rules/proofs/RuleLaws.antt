@@ -28,7 +28,7 @@ use Rattle.image.specs.Blocks.{blank}
 use Rattle.image.specs.WellFormed.{allOnes, mapAgrees, restSet, liveBefore, R1, R2, R3, R4, R5, R6, R7}
 use Rattle.image.specs.WellFormed.{soundBlock, sound, wellFormed, brokenRule}
 use Rattle.rules.specs.Marks.{markWords, seen, Marks}
-use Rattle.image.proofs.Reading.{free-read}
+use Rattle.image.proofs.Reading.{free-at}
 
 -- a test that passes at every index so far, and at the next
 pub all-more : (i : ℕ) (f : ℕ → Bool) → allBelow i f ≡ true → f i ≡ true → allBelow (i + 1) f ≡ true
@@ -81,10 +81,6 @@ module _ (geo : Geometry) (image : Image) where
   unfolding entry
   entry-read b i p e = ap (word image) e
 
-  -- a slot is free where the word that the code reads is ones
-  free-at : (b i p : ℕ) → p ≡ place geo b (entryWord geo i) → isFree (slot geo image b i) ≡ eqb (word image p) ones
-  free-at b i p e = free-read geo image b i ∙ sym (ap isFreeEntry (entry-read b i p e))
-
   -- R2's test of a slot, by its map word at p and its entry at q
   abbrev pub agrees : ℕ → ℕ → Bool
   agrees b i = Bool·beq (mapBit geo image b i) (isFreeEntry (entry geo image b i))
@@ -102,10 +98,10 @@ module _ (geo : Geometry) (image : Image) where
   clean b i = isFree (slot geo image b i) implies allOnes (contents geo image b i)
 
   pub clean-taken : (b i p : ℕ) → p ≡ place geo b (entryWord geo i) → (word image p ≡ ones → ⊥) → clean b i ≡ true
-  clean-taken b i p e other = rw (free-at b i p e ∙ ne-eqb (word image p) ones other)
+  clean-taken b i p e other = rw (free-at geo image b i p e ∙ ne-eqb (word image p) ones other)
 
   pub clean-free : (b i p : ℕ) → p ≡ place geo b (entryWord geo i) → word image p ≡ ones → clean b i ≡ allOnes (contents geo image b i)
-  clean-free b i p e free = rw (free-at b i p e ∙ eq-eqb (word image p) ones free)
+  clean-free b i p e free = rw (free-at geo image b i p e ∙ eq-eqb (word image p) ones free)
 
 -- ---- the marks of R5
 

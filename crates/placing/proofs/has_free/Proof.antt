@@ -1,5 +1,5 @@
 -- `placing::has_free` meets its contract: a slot is free exactly where its entry is all ones, and a block is full where none is.
-use mathlib.Core.Path.{_≡_, sym, ap, _∙_}
+use mathlib.Core.Path.{_≡_, _∙_}
 use mathlib.Core.Bool.{false}
 use Prim.Native.Nat.{ℕ, _+_, _-_, _<_, _≤_}
 use native.Mathlib.Omega.{arith}
@@ -10,21 +10,13 @@ use borrow.Author.Count.{below-more}
 use borrow.Author.Tests.{eq-eqb, ne-eqb}
 use Rattle.ranges.proofs.Tests.{any-of, none-of}
 use Rattle.bits.specs.Word.{ones}
-use Rattle.geometry.specs.declared.Geometry.{Geometry}
 use Rattle.geometry.specs.Geometry.{d}
-use Rattle.geometry.specs.Places.{place, entryWord}
-use Rattle.image.specs.Words.{Image, word, entry}
-use Rattle.image.specs.Slots.{slot, isFree, isFreeEntry}
+use Rattle.image.specs.Words.{word}
+use Rattle.image.specs.Slots.{slot, isFree}
 use Rattle.image.specs.Blocks.{full}
-use Rattle.image.proofs.Reading.{entry-inside, free-read}
+use Rattle.image.proofs.Reading.{entry-inside, free-at}
 use Rattle.placing.proofs.has_free.Statement.{statement}
 use Rattle.placing.proofs.has_free.Tie as tie
-
--- a slot's freedom, by the word that the code reads
-free-at :
-    (geo : Geometry) (image : Image) (b i p : ℕ) → p ≡ place geo b (entryWord geo i) → isFree (slot geo image b i) ≡ eqb (word image p) ones
-unfolding entry
-free-at geo image b i p e = free-read geo image b i ∙ sym (ap (λ (q : ℕ). isFreeEntry (word image q)) e)
 
 abbrev Inv-loop : tie.InvT-loop
 Inv-loop image b d entries i₀ i = (i ≤ d) × ((j : ℕ) → j < i → eqb (word image (entries + j)) ones ≡ false)
