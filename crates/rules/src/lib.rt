@@ -1,16 +1,14 @@
-// Whether an image is well formed: R1 to R7, each block in turn, and every word a bounded number of times.
-ghost use mathlib.Core.Bool.{true, false, not, _&&_, _||_};
+// Each rule of a block by itself: R1 to R4 and R7, and which of R2 to R5 is the first that a block breaks.
+ghost use mathlib.Core.Bool.{true, false, not, _&&_};
 ghost use mathlib.Core.Path.{_≡_};
-ghost use Prim.Native.Nat.{ℕ, suc, _*_, _<_};
-ghost use lib.Dec.{eqb, leb};
+ghost use Prim.Native.Nat.{_<_};
+ghost use lib.Dec.{leb};
 ghost use lib.ListN.{length};
 ghost use Rattle.ranges.specs.Range.{allBelow};
 ghost use Rattle.geometry.specs.Geometry.{d, sectorWords};
 ghost use Rattle.image.specs.Words.{Shaped, contents};
 ghost use Rattle.image.specs.Slots.{slotOf, slot, isLiveWith};
-ghost use Rattle.image.specs.WellFormed.{allOnes, mapAgrees, restSet, outOfBounds, R1, R2, R3, R4, R5, R7, brokenRule, wellFormed};
-ghost use Rattle.rules.specs.Marks.{markWords, seen, Marks};
-use blocks::count_blank;
+ghost use Rattle.image.specs.WellFormed.{allOnes, mapAgrees, restSet, outOfBounds, R1, R2, R3, R4, R5, R7, brokenRule};
 use blocks::erase_count;
 use blocks::lowest_free;
 use geometry::Geometry;
@@ -30,7 +28,7 @@ fn all_ones(sector: &[u32]) -> bool
 }
 
 // R1: the erase count is not above the ceiling.
-fn rule1(image: &[u32], geo: Geometry, b: usize) -> bool
+pub fn rule1(image: &[u32], geo: Geometry, b: usize) -> bool
     requires { ⌜ Shaped geo (now image) ⌝ }
     requires { ⌜ b < geo .blocks ⌝ }
     ensures { λ r. ⌜ r ≡ R1 geo (now (image .entry)) b ⌝ }
@@ -58,7 +56,7 @@ fn map_agrees(image: &[u32], geo: Geometry, b: usize) -> bool
 }
 
 // R2, of the rest: the map bits that belong to no slot are set.
-fn rest_set(image: &[u32], geo: Geometry, b: usize) -> bool
+pub fn rest_set(image: &[u32], geo: Geometry, b: usize) -> bool
     requires { ⌜ Shaped geo (now image) ⌝ }
     requires { ⌜ b < geo .blocks ⌝ }
     ensures { λ r. ⌜ r ≡ restSet geo (now (image .entry)) b ⌝ }
@@ -87,7 +85,7 @@ fn rule2(image: &[u32], geo: Geometry, b: usize) -> bool
 }
 
 // Whether all content words of slot i are ones.
-fn contents_clean(image: &[u32], geo: Geometry, b: usize, i: usize) -> bool
+pub fn contents_clean(image: &[u32], geo: Geometry, b: usize, i: usize) -> bool
     requires { ⌜ Shaped geo (now image) ⌝ }
     requires { ⌜ b < geo .blocks ⌝ }
     requires { ⌜ i < d geo ⌝ }
@@ -137,60 +135,6 @@ fn rule4(image: &[u32], geo: Geometry, b: usize) -> bool
     true
 }
 
-// Marks the number n. Whether it was not marked before.
-fn mark(marks: &mut [u32], n: u32) -> bool
-    requires { ⌜ length (now marks) ≡ markWords ⌝ }
-    requires { ⌜ n < 32 * markWords ⌝ }
-    ensures { λ r. ⌜ r ≡ not (seen (now (marks .entry)) n) ⌝ }
-    ensures { λ r. ⌜ ((m : ℕ) → seen (now (marks .exit)) m ≡ (seen (now (marks .entry)) m || eqb n m)) ⌝ }
-{
-    let at = (n / 32) as usize;
-    let new = bits::is_set(marks[at], n % 32);
-    marks[at] = bits::clear_bit(marks[at], n % 32);
-    new
-}
-
-// R2 to R5 in one pass over the slots. The marks know the earlier blocks' numbers and learn this one's.
-fn rules_2_to_5(image: &[u32], geo: Geometry, b: usize, marks: &mut [u32]) -> bool
-    requires { ⌜ Shaped geo (now image) ⌝ }
-    requires { ⌜ b < geo .blocks ⌝ }
-    requires { ⌜ Marks geo (now image) b 0 (now marks) ⌝ }
-    ensures { λ r. ⌜ r ≡ (R2 geo (now (image .entry)) b && R3 geo (now (image .entry)) b
-        && R4 geo (now (image .entry)) b && R5 geo (now (image .entry)) b) ⌝ }
-    ensures { λ r. ⌜ (r ≡ true → Marks geo (now (image .entry)) (suc b) 0 (now (marks .exit))) ⌝ }
-{
-    if !rest_set(image, geo, b) {
-        return false;
-    }
-    let d = geo.d();
-    let map = geo.map_start(b);
-    let entries = geo.entries_start(b);
-    for i in 0..d {
-        let entry = image[entries + i];
-        let set = bits::is_set(image[map + i / 32], (i % 32) as u32);
-        if set != (entry == 0xFFFF_FFFF) {
-            return false;
-        }
-        match slot_of(geo.logical, entry) {
-            Slot::Free => {
-                if !contents_clean(image, geo, b, i) {
-                    return false;
-                }
-            }
-            Slot::Live(n) => {
-                if !mark(marks, n) {
-                    return false;
-                }
-            }
-            Slot::Dead => {}
-            Slot::Faulty => {
-                return false;
-            }
-        }
-    }
-    true
-}
-
 // Whether the number of an entry, if it is live, lies between the two words. There is no branch here and no way out of the loop that
 // calls it, so that the compiler takes several entries at a time.
 fn bounded(logical: u32, entry: u32, least: u32, greatest: u32) -> bool
@@ -220,7 +164,7 @@ fn live_in_bounds(image: &[u32], geo: Geometry, b: usize) -> bool
 }
 
 // R7, of a block whose map agrees with its entries.
-fn rule7(image: &[u32], geo: Geometry, b: usize) -> bool
+pub fn rule7(image: &[u32], geo: Geometry, b: usize) -> bool
     requires { ⌜ Shaped geo (now image) ⌝ }
     requires { ⌜ b < geo .blocks ⌝ }
     requires { ⌜ R2 geo (now image) b ≡ true ⌝ }
@@ -237,7 +181,7 @@ fn rule7(image: &[u32], geo: Geometry, b: usize) -> bool
 }
 
 // The first of R2 to R5 that block b breaks, where it breaks one of them.
-fn first_of_2_to_5(image: &[u32], geo: Geometry, b: usize) -> u32
+pub fn first_of_2_to_5(image: &[u32], geo: Geometry, b: usize) -> u32
     requires { ⌜ Shaped geo (now image) ⌝ }
     requires { ⌜ b < geo .blocks ⌝ }
     requires { ⌜ R1 geo (now image) b ≡ true ⌝ }
@@ -255,39 +199,4 @@ fn first_of_2_to_5(image: &[u32], geo: Geometry, b: usize) -> u32
         return 4;
     }
     5
-}
-
-// The number of the first rule that block b breaks, of R1 to R5 and R7 in that order; 0 where it keeps them all.
-fn broken_rule(image: &[u32], geo: Geometry, b: usize, marks: &mut [u32]) -> u32
-    requires { ⌜ Shaped geo (now image) ⌝ }
-    requires { ⌜ b < geo .blocks ⌝ }
-    requires { ⌜ Marks geo (now image) b 0 (now marks) ⌝ }
-    ensures { λ r. ⌜ r ≡ brokenRule geo (now (image .entry)) b ⌝ }
-    ensures { λ r. ⌜ (r ≡ 0 → Marks geo (now (image .entry)) (suc b) 0 (now (marks .exit))) ⌝ }
-{
-    if !rule1(image, geo, b) {
-        return 1;
-    }
-    if !rules_2_to_5(image, geo, b, marks) {
-        return first_of_2_to_5(image, geo, b);
-    }
-    if !rule7(image, geo, b) {
-        return 7;
-    }
-    0
-}
-
-// Whether the image is well formed: each block by its rules in turn, then R6.
-pub fn well_formed(image: &[u32], geo: Geometry) -> bool
-    requires { ⌜ Shaped geo (now image) ⌝ }
-    ensures { λ r. ⌜ r ≡ wellFormed geo (now (image .entry)) ⌝ }
-{
-    let blocks = geo.blocks as usize;
-    let mut marks = [0xFFFF_FFFFu32; 124];
-    for b in 0..blocks {
-        if broken_rule(image, geo, b, &mut marks) != 0 {
-            return false;
-        }
-    }
-    0 < count_blank(image, geo)
 }

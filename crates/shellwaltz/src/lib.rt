@@ -106,7 +106,7 @@ pub fn check(image: &[u32], geo: Geometry) -> Answer
     if !fits(image, geo) {
         return Answer::BadGeometry;
     }
-    if !rules::well_formed(image, geo) {
+    if !checking::well_formed(image, geo) {
         return Answer::Malformed;
     }
     Answer::Accepted
@@ -152,7 +152,7 @@ pub fn report(image: &[u32], geo: Geometry) -> Totals
             erase_sum: 0,
         };
     }
-    if !rules::well_formed(image, geo) {
+    if !checking::well_formed(image, geo) {
         return Totals {
             answer: Answer::Malformed,
             mapped: 0,
@@ -178,7 +178,7 @@ pub fn read(image: &[u32], geo: Geometry, n: u32, buffer: &mut [u32]) -> Answer
     if geo.logical <= n {
         return Answer::BadNumber;
     }
-    if !rules::well_formed(image, geo) {
+    if !checking::well_formed(image, geo) {
         return Answer::Malformed;
     }
     match image::slots::find(image, geo, n) {
@@ -215,7 +215,7 @@ pub fn write(image: &mut [u32], geo: Geometry, n: u32, buffer: &[u32]) -> Outcom
     if n >= geo.logical {
         return refused(Answer::BadNumber);
     }
-    if !rules::well_formed(image, geo) {
+    if !checking::well_formed(image, geo) {
         return refused(Answer::Malformed);
     }
     match writing::filling::plan(image, geo) {
@@ -250,7 +250,7 @@ pub fn release(image: &mut [u32], geo: Geometry, n: u32) -> Outcome
     if n >= geo.logical {
         return refused(Answer::BadNumber);
     }
-    if !rules::well_formed(image, geo) {
+    if !checking::well_formed(image, geo) {
         return refused(Answer::Malformed);
     }
     let words = placing::release(image, geo, n);

@@ -1,12 +1,12 @@
--- `rules::mark` meets its contract: the number's bit is read, and cleared.
+-- `checking::mark` meets its contract: the number's bit is read, and cleared.
 use mathlib.Core.Path.{sym, _∙_}
 use mathlib.Core.Bool.{Bool·not-not}
 use native.Mathlib.Omega.{arith}
 use borrow.Author.Needs.{needs}
-use Rattle.rules.specs.Marks.{seen}
-use Rattle.rules.proofs.RuleLaws.{seen-marked}
-use Rattle.rules.proofs.mark.Statement.{statement}
-use Rattle.rules.proofs.mark.Tie as tie
+use Rattle.checking.specs.Marks.{seen}
+use Rattle.checking.proofs.CheckLaws.{seen-marked}
+use Rattle.checking.proofs.mark.Statement.{statement}
+use Rattle.checking.proofs.mark.Tie as tie
 
 cast-at : tie.Need-cast-at
 cast-at c = search needs

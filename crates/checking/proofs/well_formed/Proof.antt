@@ -1,4 +1,4 @@
--- `rules::well_formed` meets its contract: the blocks passed are sound and the marks know their numbers; a block that is not
+-- `checking::well_formed` meets its contract: the blocks passed are sound and the marks know their numbers; a block that is not
 -- decides, and at the end R6 does.
 use mathlib.Core.Path.{_≡_, refl, sym, ap, _∙_}
 use mathlib.Core.Bool.{true}
@@ -10,12 +10,13 @@ use borrow.Author.Tests.{eq-eqb, ne-eqb}
 use lib.Dec.{eqb, ltb}
 use Rattle.ranges.specs.Range.{allBelow}
 use Rattle.geometry.proofs.Laws.{logical-small}
-use Rattle.rules.specs.Marks.{Marks}
+use Rattle.checking.specs.Marks.{Marks}
 use Rattle.image.specs.WellFormed.{soundBlock, sound}
 use Rattle.image.proofs.Facts.{sound-facts, sound-maps}
-use Rattle.rules.proofs.RuleLaws.{all-more, sound-broken, unsound-fails, sound-decides, marks-start}
-use Rattle.rules.proofs.well_formed.Statement.{statement}
-use Rattle.rules.proofs.well_formed.Tie as tie
+use Rattle.rules.proofs.RuleLaws.{all-more}
+use Rattle.checking.proofs.CheckLaws.{sound-broken, unsound-fails, sound-decides, marks-start}
+use Rattle.checking.proofs.well_formed.Statement.{statement}
+use Rattle.checking.proofs.well_formed.Tie as tie
 
 abbrev Inv-loop : tie.InvT-loop
 Inv-loop image geo blocks marks₀ b₀ marks b = (b ≤ blocks) × Marks geo image b 0 marks × (allBelow b (soundBlock geo image) ≡ true)

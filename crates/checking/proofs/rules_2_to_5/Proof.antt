@@ -1,4 +1,4 @@
--- `rules::rules_2_to_5` meets its contract: the marks know the numbers of all slots before this one, every slot passed keeps the
+-- `checking::rules_2_to_5` meets its contract: the marks know the numbers of all slots before this one, every slot passed keeps the
 -- four rules, and the first that breaks one decides.
 use mathlib.Core.Path.{_≡_, refl, sym, ap, _∙_}
 use mathlib.Core.Logic.{⊎-elim}
@@ -21,11 +21,12 @@ use Rattle.image.specs.Slots.{slot, isFree, isFreeEntry, isFaulty, isLiveWith}
 use Rattle.image.specs.WellFormed.{allOnes, liveBefore}
 use Rattle.image.proofs.Entries.{live-entry}
 use Rattle.image.proofs.Reading.{map-inside, entry-inside, slot-read}
-use Rattle.rules.specs.Marks.{seen, Marks}
-use Rattle.rules.proofs.RuleLaws.{all-more, agrees, agrees-read, marks-next, other-learnt, live-learnt}
-use Rattle.rules.proofs.RuleLaws.{keeps, keeps-kind, fourRules, keeps-rules, rest-breaks}
-use Rattle.rules.proofs.rules_2_to_5.Statement.{statement}
-use Rattle.rules.proofs.rules_2_to_5.Tie as tie
+use Rattle.checking.specs.Marks.{seen, Marks}
+use Rattle.rules.proofs.RuleLaws.{all-more, agrees, agrees-read}
+use Rattle.checking.proofs.CheckLaws.{marks-next, other-learnt, live-learnt}
+use Rattle.checking.proofs.CheckLaws.{keeps, keeps-kind, fourRules, keeps-rules, rest-breaks}
+use Rattle.checking.proofs.rules_2_to_5.Statement.{statement}
+use Rattle.checking.proofs.rules_2_to_5.Tie as tie
 
 abbrev Inv-loop : tie.InvT-loop
 Inv-loop image geo b marks₀ d map entries i₀ marks i =

@@ -1,4 +1,4 @@
--- `rules::broken_rule` meets its contract: R1 is asked first; where one of R2 to R5 is broken, the first of them is the answer, and where
+-- `checking::broken_rule` meets its contract: R1 is asked first; where one of R2 to R5 is broken, the first of them is the answer, and where
 -- they are kept R7 decides.
 use mathlib.Core.Path.{_≡_, sym, _∙_}
 use mathlib.Core.Bool.{true}
@@ -6,9 +6,9 @@ use native.Mathlib.Omega.{arith}
 use borrow.Author.Needs.{needs}
 use borrow.Author.Tests.{not-true, not-false}
 use Rattle.image.specs.WellFormed.{R1, R2, R3, R4, R5, brokenRule}
-use Rattle.rules.proofs.RuleLaws.{four-kept}
-use Rattle.rules.proofs.broken_rule.Statement.{statement}
-use Rattle.rules.proofs.broken_rule.Tie as tie
+use Rattle.checking.proofs.CheckLaws.{four-kept}
+use Rattle.checking.proofs.broken_rule.Statement.{statement}
+use Rattle.checking.proofs.broken_rule.Tie as tie
 
 rule1-requires : tie.Need-rule1-requires
 rule1-requires c κs = search needs
