@@ -18,14 +18,14 @@ use Rattle.flash.specs.Placing.{releasing}
 use Rattle.flash.specs.Writing.{mustReclaim, writing}
 use Rattle.flash.proofs.Stores.{run-none}
 use Rattle.flash.proofs.Counts.{releasing-erasures, filling-erases-nothing}
-use Rattle.flash.proofs.Clearing.{run-clears, erases-none}
+use Rattle.flash.proofs.Clearing.{program-clears, run-clears, erases-none}
 use Rattle.flash.proofs.Planned.{writing-fills}
 use Rattle.shellwaltz.specs.declared.Answer.{Answer}
 use Rattle.shellwaltz.specs.declared.Answer.the-variants.{Accepted, BadGeometry, BadBuffer, BadNumber, Malformed, Unmapped, WornOut}
 use Rattle.shellwaltz.specs.Refusals.{formatRows, checkRows, readRows, writeRows, releaseRows, formatAnswer, checkAnswer, readAnswer, writeAnswer, releaseAnswer, row1, row2, row3, row4}
 use Rattle.shellwaltz.specs.Calls.{ifAccepted, fresh, formatted, totalsOf, noTotals, reported, copiedFrom, readBuffer, writeSteps, releaseSteps, outcome}
 use Rattle.promises.specs.Runs.{ran, started}
-use Rattle.promises.specs.Demands.{Refusals, RefusedChangesNothing, ReadReturnsTheMap, WriteSetsOneSector, ReleaseRemovesOneSector, ProgrammingOnlyClears, OnlyTheVictimIsErased, StepsLeaveTheAskedWord, WriteBound, RunBound, RunBoundFromAny}
+use Rattle.promises.specs.Demands.{Refusals, RefusedChangesNothing, ReadReturnsTheMap, WriteSetsOneSector, ReleaseRemovesOneSector, AStepOnlyClears, ProgrammingOnlyClears, OnlyTheVictimIsErased, StepsLeaveTheAskedWord, WriteBound, RunBound, RunBoundFromAny}
 use Rattle.shellwaltz.proofs.Rows.{if-accepted, if-refused}
 use Rattle.shellwaltz.proofs.CallLaws.{formed-ready}
 use Rattle.promises.proofs.Given.{given-exactly, accepted?, if-either}
@@ -106,6 +106,9 @@ read-returns-the-map geo image n buffer = (
         (not-given (row1 geo image .applies) (row2 geo image buffer .applies) (row3 geo image n .applies) (row4 geo image .applies)
         (rw e at answer))
     unmapped Nothing e answer = map-nothing geo image n e
+
+pub a-step-only-clears : AStepOnlyClears
+a-step-only-clears = program-clears
 
 pub programming-only-clears : ProgrammingOnlyClears
 unfolding releaseSteps erasuresIn

@@ -16,7 +16,7 @@ use Rattle.image.specs.Words.{Image, Words32, word, eraseCount}
 use Rattle.image.specs.Slots.{mapOf}
 use Rattle.image.specs.Blocks.{freeSlots, victim}
 use Rattle.image.specs.WellFormed.{wellFormed}
-use Rattle.flash.specs.Steps.{run, erasesBlock, leavesAsked}
+use Rattle.flash.specs.Steps.{programmedAt, run, erasesBlock, leavesAsked}
 use Rattle.flash.specs.Placing.{releasing}
 use Rattle.flash.specs.Writing.{mustReclaim, writing}
 use Rattle.shellwaltz.specs.declared.Answer.{Answer}
@@ -102,8 +102,13 @@ ReleaseRemovesOneSector =
     × (mapOf geo (released geo image n) n ≡ none)
     × ((m : ℕ) → m ≢ n → mapOf geo (released geo image n) m ≡ mapOf geo image m)
 
--- Programming only clears bits: after a release every word has only bits that it had, and so has after a write every word but those of a
--- block that it erased. It erases none but the victim, and that only where it has to reclaim.
+-- Programming only clears bits. Of one step, whatever word is asked for at whatever place q of whatever image: no word p has a bit that it had not.
+abbrev pub AStepOnlyClears : Type 0
+AStepOnlyClears =
+    (image : Image) (q asked p j : ℕ) → isSet (word (programmedAt image q asked) p) j ≡ true → isSet (word image p) j ≡ true
+
+-- Of a call: after a release every word has only bits that it had, and so has after a write every word but those of a block that it erased. It
+-- erases none but the victim, and that only where it has to reclaim.
 abbrev pub ProgrammingOnlyClears : Type 0
 ProgrammingOnlyClears =
     (geo : Geometry) (image : Image) (n : ℕ) (buffer : List ℕ) (p j : ℕ) →
