@@ -71,7 +71,7 @@ struct state {
     uint32_t *image;        /* the one that the call works on */
     uint32_t number;
     uint32_t buffer[SECTOR];
-    uint32_t words, erasures;
+    uint32_t words, erasures, bad_block, bad_rule;
 };
 
 static void put_back(struct state *s)
@@ -86,11 +86,12 @@ static uint32_t once(struct state *s, enum what what)
     uint32_t *target = s->image + (size_t)SECTOR * (g.sectors - 1);
     switch (what) {
     case CHECK:
-        return s->layer->check(g.blocks, g.sectors, g.logical, s->image, n);
+        return s->layer->check(g.blocks, g.sectors, g.logical, s->image, n, &s->bad_block, &s->bad_rule);
     case READ:
-        return s->layer->read(g.blocks, g.sectors, g.logical, s->image, n, s->number, s->buffer, SECTOR);
+        return s->layer->read(g.blocks, g.sectors, g.logical, s->image, n, s->number, s->buffer, SECTOR, &s->bad_block, &s->bad_rule);
     case WRITE:
-        return s->layer->write(g.blocks, g.sectors, g.logical, s->image, n, s->number, s->buffer, SECTOR, &s->words, &s->erasures);
+        return s->layer->write(g.blocks, g.sectors, g.logical, s->image, n, s->number, s->buffer, SECTOR, &s->words, &s->erasures,
+                               &s->bad_block, &s->bad_rule);
     case PASS:
         floor_pass(g, s->image);
         return 0;
@@ -192,10 +193,12 @@ static void growth_at(struct geometry g)
     if (!image)
         fail("no memory");
     fill_half(g, image);
-    uint32_t mapped, free_slots, dead, sum, slots = g.sectors - 1;
-    if (shellwaltz_report(g.blocks, g.sectors, g.logical, image, n, &mapped, &free_slots, &dead, &sum) != 0)
+    uint32_t slots = g.sectors - 1;
+    struct shellwaltz_part part = part_of(g, image);
+    struct shellwaltz_totals totals = shellwaltz_part_report(&part);
+    if (totals.answer != 0)
         fail("report was refused");
-    size_t looked_at = (size_t)g.blocks * (3 + (slots + 31) / 32 + slots) + (size_t)free_slots * SECTOR;
+    size_t looked_at = (size_t)g.blocks * (3 + (slots + 31) / 32 + slots) + (size_t)totals.free_slots * SECTOR;
     struct state s = {.g = g, .layer = &library, .master = image, .image = malloc(n * sizeof *image)};
     if (!s.image)
         fail("no memory");

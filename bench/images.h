@@ -16,18 +16,22 @@ static void fail(const char *what)
     exit(1);
 }
 
+static inline struct shellwaltz_part part_of(struct geometry g, uint32_t *image)
+{
+    return (struct shellwaltz_part){g.blocks, g.sectors, g.logical, image, words_of(g)};
+}
+
 /* An image that is half full: half of the numbers are written by turns until half of the slots are used. */
 static void fill_half(struct geometry g, uint32_t *image)
 {
-    uint32_t words, erasures, buffer[SECTOR];
-    size_t n = words_of(g);
-    uint32_t slots = g.blocks * (g.sectors - 1), numbers = (g.logical + 1) / 2;
-    if (shellwaltz_format(g.blocks, g.sectors, g.logical, image, n, &words, &erasures) != 0)
+    uint32_t buffer[SECTOR], slots = g.blocks * (g.sectors - 1), numbers = (g.logical + 1) / 2;
+    struct shellwaltz_part part = part_of(g, image);
+    if (shellwaltz_part_format(&part).answer != 0)
         fail("format was refused");
     for (uint32_t i = 0; i < slots / 2; i++) {
         for (uint32_t j = 0; j < SECTOR; j++)
             buffer[j] = i * 2654435761u + j;
-        if (shellwaltz_write(g.blocks, g.sectors, g.logical, image, n, i % numbers, buffer, SECTOR, &words, &erasures) != 0)
+        if (shellwaltz_part_write(&part, i % numbers, buffer).answer != 0)
             fail("a write was refused");
     }
 }
@@ -35,15 +39,18 @@ static void fill_half(struct geometry g, uint32_t *image)
 /* Writes on, half of the numbers in no order, until the next write reclaims: its victim has live slots to copy. */
 static void fill_to_reclaim(struct geometry g, uint32_t *image)
 {
-    uint32_t words, erasures = 0, chance = 1, buffer[SECTOR] = {0};
+    uint32_t chance = 1, buffer[SECTOR] = {0};
     size_t n = words_of(g);
     uint32_t *before = malloc(n * sizeof *before);
     if (!before)
         fail("no memory");
-    while (erasures == 0) {
+    struct shellwaltz_part part = part_of(g, image);
+    struct shellwaltz_result wrote = {0, 0, 0, 0, 0};
+    while (wrote.erasures == 0) {
         memcpy(before, image, n * sizeof *before);
         chance = chance * 1664525u + 1013904223u;
-        if (shellwaltz_write(g.blocks, g.sectors, g.logical, image, n, (chance >> 8) % ((g.logical + 1) / 2), buffer, SECTOR, &words, &erasures) != 0)
+        wrote = shellwaltz_part_write(&part, (chance >> 8) % ((g.logical + 1) / 2), buffer);
+        if (wrote.answer != 0)
             fail("a write was refused");
     }
     memcpy(image, before, n * sizeof *before);

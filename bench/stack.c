@@ -11,7 +11,7 @@ static const uint32_t PAINT = 0xA5C3A5C3u;
 static const struct geometry g = {64, 64, 3968};
 
 static uint32_t stack[STACK_WORDS];
-static uint32_t *image, buffer[SECTOR], count[4], answer;
+static uint32_t *image, buffer[SECTOR], count[4], bad[2], answer;
 static ucontext_t here, there;
 
 static void call_nothing(void)
@@ -26,29 +26,31 @@ static void call_format(void)
 
 static void call_check(void)
 {
-    answer = shellwaltz_check(g.blocks, g.sectors, g.logical, image, words_of(g));
+    answer = shellwaltz_check(g.blocks, g.sectors, g.logical, image, words_of(g), bad, bad + 1);
 }
 
 static void call_report(void)
 {
-    answer = shellwaltz_report(g.blocks, g.sectors, g.logical, image, words_of(g), count, count + 1, count + 2, count + 3);
+    answer = shellwaltz_report(g.blocks, g.sectors, g.logical, image, words_of(g), count, count + 1, count + 2, count + 3,
+                               bad, bad + 1);
 }
 
 static void call_read(void)
 {
-    answer = shellwaltz_read(g.blocks, g.sectors, g.logical, image, words_of(g), NUMBER, buffer, SECTOR);
+    answer = shellwaltz_read(g.blocks, g.sectors, g.logical, image, words_of(g), NUMBER, buffer, SECTOR, bad, bad + 1);
 }
 
 static void call_write(void)
 {
-    answer = shellwaltz_write(g.blocks, g.sectors, g.logical, image, words_of(g), NUMBER, buffer, SECTOR, count, count + 1);
+    answer = shellwaltz_write(g.blocks, g.sectors, g.logical, image, words_of(g), NUMBER, buffer, SECTOR, count, count + 1,
+                              bad, bad + 1);
     if (count[1] != 1)
         fail("the write did not reclaim");
 }
 
 static void call_release(void)
 {
-    answer = shellwaltz_release(g.blocks, g.sectors, g.logical, image, words_of(g), NUMBER, count, count + 1);
+    answer = shellwaltz_release(g.blocks, g.sectors, g.logical, image, words_of(g), NUMBER, count, count + 1, bad, bad + 1);
 }
 
 static size_t stack_bytes(void (*call)(void))

@@ -1,15 +1,23 @@
 /* Holds the linked library against the second implementation: the same call on two images that are the same, and afterwards the
- * answer, the counts, the whole image and the whole buffer have to be the same again.
+ * answer, the counts, the block and the rule that the call names, the whole image and the whole buffer have to be the same again.
  *
  *     compare SEED ROUNDS SECONDS
  *
- * runs rounds 0 to ROUNDS - 1, or as many as SECONDS allow. A round takes the next geometry of the list, makes an image (formatted;
- * or well formed at random: blocks blank, open and full, any erase counts, any dead entries) and does calls on it, few or many, some
- * on an image that was damaged at one or two places, some with numbers, lengths and geometries out of their range. The round's choices depend on
- * SEED and its number alone. At the first difference it prints both, the call and the first word that differs, and fails. At the end
- * it fails too where some refusal of some call, or an erasure, never came about: then the inputs have missed it.
+ * runs rounds 0 to ROUNDS - 1, or as many as SECONDS allow, but four for each geometry at least, so that on a slow machine too all comes
+ * about that has to. A round takes the next geometry of the list, makes an image (formatted; or well formed at random: blocks blank, open
+ * and full, any erase counts, any dead entries) and does calls on it, few or many, some on an image that was damaged at one or two places,
+ * some with numbers, lengths and geometries out of their range. The round's choices depend on SEED and its number alone.
  *
- * Compiled with -DSPOIL it changes one word after some calls, so that it must find a difference: the test of this test. */
+ * Some calls are on an image with one to three planted faults (faults.h), in one block or in several. What was planted says which block
+ * and rule have to be named, so there both sides are held against a third opinion as well.
+ *
+ * At the first difference it prints both, the call and the first word that differs, and fails. At the end it fails too where some
+ * refusal of some call, some rule that a call can name, some way that planted faults can hide one another, or an erasure, never came
+ * about: then the inputs have missed it.
+ *
+ * The tests of this test, each of which must find what is changed: compiled with -DSPOIL it changes one word after some calls; with
+ * -DSPOIL_PAIR=bad_block or -DSPOIL_PAIR=bad_rule that number of the second side, after some calls that answered 4; and with
+ * -DSPOIL_BOTH=bad_block or -DSPOIL_BOTH=bad_rule that of both sides, where it is held against the planted faults. */
 #define _POSIX_C_SOURCE 200809L
 #include <stdbool.h>
 #include <stdio.h>
@@ -17,10 +25,11 @@
 #include <string.h>
 #include <time.h>
 
-#include "layers.h"
+#include "faults.h"
 
-enum { SECTOR = 128, GUARD = 64, MOST_BUFFER = 2 * SECTOR, SHORT_RUN = 48, LONG_RUN = 1500, ANSWERS = 7 };
-static const uint32_t ONES = 0xFFFFFFFFu, LIVE = 0xC0000000u;
+enum { GUARD = 64, MOST_BUFFER = 2 * SECTOR, SHORT_RUN = 48, LONG_RUN = 1500, ANSWERS = 7 };
+enum { RUBBISH = 77 };       /* what a call finds where it is to put a number: neither a block nor a rule */
+enum { SMALL_IMAGE = 8192 }; /* words of an image on which a call takes next to no time */
 
 /* From the smallest to the largest, with one and two map words, L at both ends, and d at and beside 32. */
 static const struct geometry geometries[] = {
@@ -29,50 +38,13 @@ static const struct geometry geometries[] = {
     {8, 16, 1},    {8, 16, 104},  {16, 16, 200},  {7, 33, 100},   {7, 34, 190},   {3, 32, 61},
     {32, 32, 900}, {32, 33, 991}, {64, 33, 1000}, {33, 64, 2015}, {64, 64, 1000}, {64, 64, 3968},
 };
-enum { GEOMETRIES = sizeof geometries / sizeof *geometries };
-
-/* ---- Chance: splitmix64, so that a seed means the same everywhere. */
-
-static uint64_t chance_state;
-
-static uint64_t chance(void)
-{
-    uint64_t z = chance_state += 0x9E3779B97F4A7C15u;
-    z = (z ^ (z >> 30)) * 0xBF58476D1CE4E5B9u;
-    z = (z ^ (z >> 27)) * 0x94D049BB133111EBu;
-    return z ^ (z >> 31);
-}
-
-static uint32_t below(uint32_t n)
-{
-    return (uint32_t)(chance() % n);
-}
-
-static bool one_in(uint32_t n)
-{
-    return below(n) == 0;
-}
-
-/* A word of the kinds that matter: any, all ones, none, one bit set or clear, a live entry, a small number, one near the ceiling. */
-static uint32_t odd_word(struct geometry g)
-{
-    switch (below(8)) {
-    case 0: return ONES;
-    case 1: return 0;
-    case 2: return 1u << below(32);
-    case 3: return ~(1u << below(32));
-    case 4: return LIVE + below(g.logical + 2);
-    case 5: return below(g.logical + 2);
-    case 6: return SHELLWALTZ_CEILING - 2 + below(5);
-    default: return (uint32_t)chance();
-    }
-}
+enum { GEOMETRIES = sizeof geometries / sizeof *geometries, LEAST_ROUNDS = 4 * GEOMETRIES };
 
 /* ---- The two sides: the same words, each with guard words on both ends. */
 
 struct side {
     uint32_t *image, *buffer; /* behind the guard */
-    uint32_t answer, count[4];
+    uint32_t answer, count[4], bad_block, bad_rule;
 };
 
 static struct side ours, theirs;
@@ -95,110 +67,6 @@ static uint32_t *make_words(size_t n)
     return words + GUARD;
 }
 
-/* ---- Images */
-
-static uint32_t slots_of(struct geometry g)
-{
-    return g.sectors - 1;
-}
-
-static uint32_t map_words_of(struct geometry g)
-{
-    return (slots_of(g) + 31) / 32;
-}
-
-static uint32_t *block_of(struct geometry g, uint32_t b)
-{
-    return ours.image + (size_t)b * g.sectors * SECTOR;
-}
-
-static uint32_t some_count(void)
-{
-    return one_in(3) ? SHELLWALTZ_CEILING - below(2) : below(5);
-}
-
-static void fill_contents(uint32_t *contents)
-{
-    uint32_t fill = one_in(4) ? ONES : (uint32_t)chance();
-    for (uint32_t j = 0; j < SECTOR; j++)
-        contents[j] = fill ^ (one_in(2) ? j : 0);
-}
-
-/* An entry that says neither free nor live nor fault: the upper three bits are not 110, and it is not all ones. */
-static uint32_t dead_entry(struct geometry g)
-{
-    uint32_t entry = one_in(2) ? (one_in(2) ? 0x80000000u : 0x40000000u) + below(g.logical) : odd_word(g);
-    return entry == ONES || entry >> 29 == 6 ? entry & 0x7FFFFFFFu : entry;
-}
-
-/* A block in which `used` slots are taken, some of them by the next numbers of the list. */
-static void make_block(struct geometry g, uint32_t b, uint32_t used, const uint32_t *numbers, uint32_t *next, uint32_t most_live)
-{
-    uint32_t *block = block_of(g, b), *map = block + 3, *entries = map + map_words_of(g);
-    uint32_t slots = slots_of(g), least = ONES, greatest = 0, left = used;
-    block[0] = some_count();
-    for (uint32_t i = 0; i < slots; i++) {
-        if (below(slots - i) >= left)
-            continue;
-        left--;
-        map[i / 32] &= ~(1u << i % 32);
-        fill_contents(block + (size_t)(i + 1) * SECTOR);
-        if (*next < most_live && !one_in(3)) {
-            uint32_t n = numbers[(*next)++];
-            entries[i] = LIVE + n;
-            least = n < least ? n : least;
-            greatest = n > greatest ? n : greatest;
-        } else {
-            entries[i] = dead_entry(g);
-        }
-    }
-    if (used == slots) {
-        block[1] = one_in(2) || least == 0 || least == ONES ? (least == ONES ? odd_word(g) : least) : below(least);
-        block[2] = one_in(2) && greatest != ONES ? greatest : greatest + below(3);
-    }
-}
-
-/* A well-formed image with nothing in it that a run of writes would have to have made. */
-static void make_image(struct geometry g)
-{
-    static uint32_t numbers[SHELLWALTZ_MOST_LOGICAL(64, 64)];
-    uint32_t slots = slots_of(g), blank = below(g.blocks), next = 0, most_live = below(g.logical + 1), style = below(3);
-    for (uint32_t n = 0; n < g.logical; n++)
-        numbers[n] = n;
-    for (uint32_t n = g.logical; n > 1; n--) {
-        uint32_t other = below(n), kept = numbers[n - 1];
-        numbers[n - 1] = numbers[other];
-        numbers[other] = kept;
-    }
-    for (size_t w = 0; w < words_of(g); w++)
-        ours.image[w] = ONES;
-    for (uint32_t b = 0; b < g.blocks; b++) {
-        uint32_t used = style == 0 ? slots : style == 1 ? (one_in(2) ? slots : below(slots + 1)) : below(slots + 1);
-        make_block(g, b, b == blank ? 0 : used, numbers, &next, most_live);
-    }
-}
-
-/* One word at each kind of place: the three words at a block's start, the map and the bits above its slots, an entry, a word of the
- * management sector that no rule speaks of, and the first, the last and any word of a slot's contents. */
-static void damage(struct geometry g)
-{
-    uint32_t b = below(g.blocks), i = below(slots_of(g)), *block = block_of(g, b), *entries = block + 3 + map_words_of(g);
-    uint32_t *contents = block + (size_t)(i + 1) * SECTOR, *at;
-    switch (below(10)) {
-    case 0: at = block; break;
-    case 1: at = block + 1; break;
-    case 2: at = block + 2; break;
-    case 3: at = block + 3 + i / 32; break;
-    case 4: at = block + 3 + map_words_of(g) - 1; break;
-    case 5: at = entries + i; break;
-    case 6: at = block + SECTOR - 1; break;
-    case 7: at = contents; break;
-    case 8: at = contents + SECTOR - 1; break;
-    default: at = contents + below(SECTOR); break;
-    }
-    *at = one_in(2) ? *at ^ 1u << below(32) : odd_word(g);
-}
-
 /* ---- Calls */
 
 enum call { FORMAT, CHECK, REPORT, READ, WRITE, RELEASE, CALLS };
@@ -213,14 +81,14 @@ struct asked {
 
 static void call(const struct layer *layer, struct side *s, struct asked a)
 {
-    uint32_t b = a.g.blocks, p = a.g.sectors, l = a.g.logical, *n = s->count;
+    uint32_t b = a.g.blocks, p = a.g.sectors, l = a.g.logical, *n = s->count, *bad = &s->bad_block, *rule = &s->bad_rule;
     switch (a.call) {
     case FORMAT: s->answer = layer->format(b, p, l, s->image, a.image_words, n, n + 1); break;
-    case CHECK: s->answer = layer->check(b, p, l, s->image, a.image_words); break;
-    case REPORT: s->answer = layer->report(b, p, l, s->image, a.image_words, n, n + 1, n + 2, n + 3); break;
-    case READ: s->answer = layer->read(b, p, l, s->image, a.image_words, a.number, s->buffer, a.buffer_words); break;
-    case WRITE: s->answer = layer->write(b, p, l, s->image, a.image_words, a.number, s->buffer, a.buffer_words, n, n + 1); break;
-    default: s->answer = layer->release(b, p, l, s->image, a.image_words, a.number, n, n + 1); break;
+    case CHECK: s->answer = layer->check(b, p, l, s->image, a.image_words, bad, rule); break;
+    case REPORT: s->answer = layer->report(b, p, l, s->image, a.image_words, n, n + 1, n + 2, n + 3, bad, rule); break;
+    case READ: s->answer = layer->read(b, p, l, s->image, a.image_words, a.number, s->buffer, a.buffer_words, bad, rule); break;
+    case WRITE: s->answer = layer->write(b, p, l, s->image, a.image_words, a.number, s->buffer, a.buffer_words, n, n + 1, bad, rule); break;
+    default: s->answer = layer->release(b, p, l, s->image, a.image_words, a.number, n, n + 1, bad, rule); break;
     }
 }
 
@@ -252,7 +120,7 @@ static struct asked some_call(struct geometry g)
 
 static uint64_t seed;
 static unsigned round_number, call_number;
-static unsigned long compared, seen[CALLS][ANSWERS], erasures;
+static unsigned long compared, seen[CALLS][ANSWERS], named[CALLS][RULES + 1], erasures;
 
 /* The first place where n words differ, from the guard on; n + GUARD where none does. */
 static long first_difference(const uint32_t *x, const uint32_t *y, size_t n)
@@ -272,15 +140,28 @@ static void show_words(const char *what, const uint32_t *x, const uint32_t *y, s
         printf("  first differing word of the %s: %ld: library %08x, second %08x\n", what, at, (unsigned)x[at], (unsigned)y[at]);
 }
 
-static void show_difference(struct asked a, size_t n)
+static void show_numbers(const char *what, uint32_t x, uint32_t y)
 {
-    printf("compare: difference: seed %llu round %u call %u\n", (unsigned long long)seed, round_number, call_number);
+    if (x != y)
+        printf("  %s: library %u, second %u\n", what, (unsigned)x, (unsigned)y);
+}
+
+static void show_call(const char *what, struct asked a)
+{
+    printf("compare: %s: seed %llu round %u call %u\n", what, (unsigned long long)seed, round_number, call_number);
     printf("  %s at (%u,%u,%u), image of %zu words, number %u, buffer of %zu words\n", names[a.call], (unsigned)a.g.blocks,
            (unsigned)a.g.sectors, (unsigned)a.g.logical, a.image_words, (unsigned)a.number, a.buffer_words);
     printf("  answer: library %u, second %u\n", (unsigned)ours.answer, (unsigned)theirs.answer);
+}
+
+static void show_difference(struct asked a, size_t n)
+{
+    static const char *const counts[4] = {"count 0", "count 1", "count 2", "count 3"};
+    show_call("difference", a);
     for (int i = 0; i < 4; i++)
-        if (ours.count[i] != theirs.count[i])
-            printf("  count %d: library %u, second %u\n", i, (unsigned)ours.count[i], (unsigned)theirs.count[i]);
+        show_numbers(counts[i], ours.count[i], theirs.count[i]);
+    show_numbers("bad block", ours.bad_block, theirs.bad_block);
+    show_numbers("bad rule", ours.bad_rule, theirs.bad_rule);
     show_words("image", ours.image, theirs.image, n);
     long at = first_difference(ours.image, theirs.image, n);
     if (at >= 0 && at < (long)n)
@@ -289,12 +170,39 @@ static void show_difference(struct asked a, size_t n)
     exit(1);
 }
 
+static bool are_alike(size_t n)
+{
+    return ours.answer == theirs.answer && memcmp(ours.count, theirs.count, sizeof ours.count) == 0
+           && ours.bad_block == theirs.bad_block && ours.bad_rule == theirs.bad_rule
+           && first_difference(ours.image, theirs.image, n) == (long)(n + GUARD)
+           && first_difference(ours.buffer, theirs.buffer, MOST_BUFFER) == MOST_BUFFER + GUARD;
+}
+
+/* Whether a block and a rule are named with the answer 4 and with no other, and the number of blocks with R6 and with no other rule. */
+static bool names_what_it_may(struct asked a)
+{
+    if (a.call == FORMAT)
+        return ours.bad_block == RUBBISH && ours.bad_rule == RUBBISH;
+    if (ours.answer != SHELLWALTZ_MALFORMED)
+        return ours.bad_block == 0 && ours.bad_rule == 0;
+    if (ours.bad_rule == 6)
+        return ours.bad_block == a.g.blocks;
+    return ours.bad_rule >= 1 && ours.bad_rule <= RULES && ours.bad_block < a.g.blocks;
+}
+
+static void show_named(const char *what, struct asked a)
+{
+    show_call(what, a);
+    printf("  named by both: block %u, rule %u\n", (unsigned)ours.bad_block, (unsigned)ours.bad_rule);
+}
+
 static void compare_call(struct asked a, size_t n)
 {
     for (int j = 0; j < MOST_BUFFER; j++)
         theirs.buffer[j] = ours.buffer[j] = (uint32_t)chance();
     for (int i = 0; i < 4; i++)
-        theirs.count[i] = ours.count[i] = 77;
+        theirs.count[i] = ours.count[i] = RUBBISH;
+    theirs.bad_block = ours.bad_block = theirs.bad_rule = ours.bad_rule = RUBBISH;
     memcpy(before, ours.image, n * sizeof *before);
     call(&library, &ours, a);
     call(&second, &theirs, a);
@@ -302,14 +210,22 @@ static void compare_call(struct asked a, size_t n)
     if (one_in(200))
         theirs.image[below((uint32_t)n)] ^= 1u << below(32);
 #endif
-    if (ours.answer != theirs.answer || memcmp(ours.count, theirs.count, sizeof ours.count) != 0
-        || first_difference(ours.image, theirs.image, n) < (long)(n + GUARD)
-        || first_difference(ours.buffer, theirs.buffer, MOST_BUFFER) < MOST_BUFFER + GUARD)
+#ifdef SPOIL_PAIR
+    if (theirs.answer == SHELLWALTZ_MALFORMED && one_in(20))
+        theirs.SPOIL_PAIR ^= 1;
+#endif
+    if (!are_alike(n))
         show_difference(a, n);
     if (ours.answer >= ANSWERS)
         fail("an answer that the table does not have");
+    if (!names_what_it_may(a)) {
+        show_named("a block and a rule that the call cannot name", a);
+        exit(1);
+    }
     compared++;
     seen[a.call][ours.answer]++;
+    if (ours.answer == SHELLWALTZ_MALFORMED)
+        named[a.call][ours.bad_rule]++;
     if (a.call == WRITE)
         erasures += ours.count[1];
 }
@@ -324,14 +240,54 @@ static void on_a_damaged_image(struct geometry g, uint32_t *kept)
 {
     size_t n = words_of(g);
     memcpy(kept, ours.image, n * sizeof *kept);
-    damage(g);
+    damage(g, ours.image);
     if (one_in(2))
-        damage(g);
+        damage(g, ours.image);
     copy_over(n);
     for (int i = 0; i < 4; i++, call_number++)
         compare_call(i == 0 ? (struct asked){CHECK, g, n, SECTOR, 0} : some_call(g), n);
     memcpy(ours.image, kept, n * sizeof *kept);
     copy_over(n);
+}
+
+/* The third opinion: what was planted says what a call that answers 4 has to name. */
+static void hold_against(const struct planting *planted, struct asked a)
+{
+    const struct fault *first = first_fault(planted);
+#ifdef SPOIL_BOTH
+    if (one_in(20))
+        theirs.SPOIL_BOTH = ours.SPOIL_BOTH ^= 1;
+#endif
+    if (ours.answer == SHELLWALTZ_MALFORMED && ours.bad_block == first->block && ours.bad_rule == first->rule)
+        return;
+    show_named("not what the planted faults say", a);
+    show_faults(planted);
+    exit(1);
+}
+
+/* Calls on an image that faults were planted in, and back. With another L other entries are faulty, and such a call may be accepted, as
+ * a format is: then the image may be another one, and the planted faults say nothing of it. */
+static void on_a_faulty_image(struct geometry g, uint32_t *kept)
+{
+    static struct planting planted;
+    size_t n = words_of(g);
+    struct asked a = {CHECK, g, n, SECTOR, 0};
+    memcpy(kept, ours.image, n * sizeof *kept);
+    plant_faults(&planted, g, ours.image);
+    copy_over(n);
+    compare_call(a, n);
+    hold_against(&planted, a);
+    count_faults(&planted);
+    for (int i = 0; i < 3 && ours.answer != SHELLWALTZ_OK; i++) {
+        a = some_call(g);
+        call_number++;
+        compare_call(a, n);
+        if (ours.answer == SHELLWALTZ_MALFORMED && a.g.logical == g.logical)
+            hold_against(&planted, a);
+    }
+    memcpy(ours.image, kept, n * sizeof *kept);
+    copy_over(n);
+    call_number++;
 }
 
 static void one_round(uint32_t *kept)
@@ -340,7 +296,7 @@ static void one_round(uint32_t *kept)
     size_t n = words_of(g);
     chance_state = seed * 0x2545F4914F6CDD1Du + round_number;
     call_number = 0;
-    make_image(g);
+    make_image(g, ours.image);
     copy_over(n);
     if (one_in(4))
         compare_call((struct asked){FORMAT, g, n, SECTOR, 0}, n);
@@ -348,26 +304,40 @@ static void one_round(uint32_t *kept)
         compare_call((struct asked){CHECK, g, n, SECTOR, 0}, n);
     if (ours.answer != 0)
         fail("an image that was to be well formed is not");
+    /* Planting is for the end of a run, and rarer where a call takes long: what it has to bring about does not depend on the size. */
     for (unsigned calls = one_in(16) ? LONG_RUN : SHORT_RUN; calls > 0; calls--, call_number++) {
         if (one_in(6))
             on_a_damaged_image(g, kept);
+        if (calls <= SHORT_RUN && (n <= SMALL_IMAGE || one_in(6)))
+            on_a_faulty_image(g, kept);
         compare_call(some_call(g), n);
     }
 }
 
-/* Every call was accepted and was refused in every way that its row of the table has. */
-static void all_came_about(void)
+/* Whether the call was accepted and was refused in every way that its row of the table has and, if it answers 4, has named every rule. */
+static bool show_row(enum call c)
 {
     static const char *const rows[CALLS] = {"01", "014", "014", "012345", "012346", "01345"};
-    for (int c = 0; c < CALLS; c++) {
-        printf("  %-7s", names[c]);
-        for (int r = 0; r < ANSWERS; r++) {
-            printf(" %lu", seen[c][r]);
-            if ((strchr(rows[c], '0' + r) != NULL) != (seen[c][r] > 0))
-                fail(" <- an answer that never came about, or that the call does not have");
-        }
-        printf("\n");
+    bool complete = true;
+    printf("  %-7s", names[c]);
+    for (int r = 0; r < ANSWERS; r++) {
+        printf(" %lu", seen[c][r]);
+        complete &= (strchr(rows[c], '0' + r) != NULL) == (seen[c][r] > 0);
     }
+    if (strchr(rows[c], '4'))
+        complete &= show_counts(" |", named[c] + 1, RULES);
+    puts(complete ? "" : " <- an answer or a rule that never came about, or an answer that the call does not have");
+    return complete;
+}
+
+static void all_came_about(void)
+{
+    bool complete = true;
+    for (int c = 0; c < CALLS; c++)
+        complete &= show_row((enum call)c);
+    complete &= show_what_came_about();
+    if (!complete)
+        fail("the inputs have missed something");
     if (erasures == 0)
         fail("no block was erased");
 }
@@ -386,9 +356,9 @@ int main(int argc, char **argv)
     theirs = (struct side){.image = make_words(longest), .buffer = make_words(MOST_BUFFER)};
     before = make_words(longest);
     uint32_t *kept = make_words(longest);
-    for (round_number = 0; round_number < rounds && time(NULL) < end; round_number++)
+    for (round_number = 0; round_number < rounds && (round_number < LEAST_ROUNDS || time(NULL) < end); round_number++)
         one_round(kept);
-    printf("compare: seed %llu, %u rounds over %d geometries, %lu calls alike, %lu erasures; calls by answer 0 to 6:\n",
+    printf("compare: seed %llu, %u rounds over %d geometries, %lu calls alike, %lu erasures; calls by answer 0 to 6 | by rule 1 to 7:\n",
            (unsigned long long)seed, round_number, (int)GEOMETRIES, compared, erasures);
     all_came_about();
     return 0;

@@ -7,11 +7,13 @@
 
 struct layer {
     uint32_t (*format)(uint32_t, uint32_t, uint32_t, uint32_t *, size_t, uint32_t *, uint32_t *);
-    uint32_t (*check)(uint32_t, uint32_t, uint32_t, const uint32_t *, size_t);
-    uint32_t (*report)(uint32_t, uint32_t, uint32_t, const uint32_t *, size_t, uint32_t *, uint32_t *, uint32_t *, uint32_t *);
-    uint32_t (*read)(uint32_t, uint32_t, uint32_t, const uint32_t *, size_t, uint32_t, uint32_t *, size_t);
-    uint32_t (*write)(uint32_t, uint32_t, uint32_t, uint32_t *, size_t, uint32_t, const uint32_t *, size_t, uint32_t *, uint32_t *);
-    uint32_t (*release)(uint32_t, uint32_t, uint32_t, uint32_t *, size_t, uint32_t, uint32_t *, uint32_t *);
+    uint32_t (*check)(uint32_t, uint32_t, uint32_t, const uint32_t *, size_t, uint32_t *, uint32_t *);
+    uint32_t (*report)(uint32_t, uint32_t, uint32_t, const uint32_t *, size_t, uint32_t *, uint32_t *, uint32_t *, uint32_t *, uint32_t *,
+                       uint32_t *);
+    uint32_t (*read)(uint32_t, uint32_t, uint32_t, const uint32_t *, size_t, uint32_t, uint32_t *, size_t, uint32_t *, uint32_t *);
+    uint32_t (*write)(uint32_t, uint32_t, uint32_t, uint32_t *, size_t, uint32_t, const uint32_t *, size_t, uint32_t *, uint32_t *, uint32_t *,
+                      uint32_t *);
+    uint32_t (*release)(uint32_t, uint32_t, uint32_t, uint32_t *, size_t, uint32_t, uint32_t *, uint32_t *, uint32_t *, uint32_t *);
 };
 
 static const struct layer library = {shellwaltz_format, shellwaltz_check, shellwaltz_report,

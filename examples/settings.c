@@ -1,5 +1,5 @@
-/* A meter's settings in sector 7 of a small image: formats, writes, reads back and prints. Built by tests/c-programs against
- * libshellwaltz_c.a; what it must print is tests/settings.expected. */
+/* A meter's settings in sector 7 of a small image: formats, writes, reads back and prints; and what a log says of a damaged part. Built by
+ * tests/c-programs against libshellwaltz_c.a, as C11 and as C++; what it must print is tests/settings.expected. */
 #include <stdio.h>
 
 #include "shellwaltz.h"
@@ -8,41 +8,49 @@ enum { BLOCKS = 4, SECTORS = 8, LOGICAL = 16, SETTINGS = 7 };
 
 /* The mirror of the part. A driver loads it at the start, and carries over to the part what each accepted call changed: docs/USING.md. */
 static uint32_t image[SHELLWALTZ_IMAGE_WORDS(BLOCKS, SECTORS)];
-static const size_t image_words = sizeof image / sizeof *image;
+static const struct shellwaltz_part meter = {BLOCKS, SECTORS, LOGICAL, image, SHELLWALTZ_IMAGE_WORDS(BLOCKS, SECTORS)};
 
-static void show(const char *what, uint32_t answer)
+static void show(const char *what, struct shellwaltz_result r)
 {
-    static const char *const meaning[] = {"ok", "bad geometry", "bad buffer", "bad number", "malformed image", "nothing stored", "worn out"};
-    printf("%s: %s\n", what, meaning[answer]);
+    printf("%s: %s\n", what, shellwaltz_meaning(r.answer));
+    if (r.answer == SHELLWALTZ_MALFORMED)
+        printf("block %u, rule %u: %s\n", (unsigned)r.bad_block, (unsigned)r.bad_rule, shellwaltz_rule_meaning(r.bad_rule));
 }
 
 int main(void)
 {
-    uint32_t sector[SHELLWALTZ_SECTOR_WORDS] = {0}, words, erasures, mapped, free_slots, dead, erase_sum, answer;
+    uint32_t sector[SHELLWALTZ_SECTOR_WORDS] = {0};
 
-    show("format", shellwaltz_format(BLOCKS, SECTORS, LOGICAL, image, image_words, &words, &erasures));
+    show("format", shellwaltz_part_format(&meter));
 
     /* Nothing is stored under the number yet: the refusal tells, and the buffer keeps its words. */
-    show("read", shellwaltz_read(BLOCKS, SECTORS, LOGICAL, image, image_words, SETTINGS, sector, SHELLWALTZ_SECTOR_WORDS));
+    show("read", shellwaltz_part_read(&meter, SETTINGS, sector));
 
     for (uint32_t tariff = 1; tariff <= 40; tariff++) {
         sector[0] = 0x4D455452;
         sector[1] = tariff;
-        answer = shellwaltz_write(BLOCKS, SECTORS, LOGICAL, image, image_words, SETTINGS, sector, SHELLWALTZ_SECTOR_WORDS, &words, &erasures);
-        if (answer != SHELLWALTZ_OK || erasures != 0) {
-            show("write", answer);
-            printf("tariff %u: %u words programmed, %u block erased\n", (unsigned)tariff, (unsigned)words, (unsigned)erasures);
+        struct shellwaltz_result wrote = shellwaltz_part_write(&meter, SETTINGS, sector);
+        if (wrote.answer != SHELLWALTZ_OK || wrote.erasures != 0) {
+            show("write", wrote);
+            printf("tariff %u: %u words programmed, %u block erased\n", (unsigned)tariff, (unsigned)wrote.words, (unsigned)wrote.erasures);
         }
     }
 
     sector[1] = 0;
-    show("read", shellwaltz_read(BLOCKS, SECTORS, LOGICAL, image, image_words, SETTINGS, sector, SHELLWALTZ_SECTOR_WORDS));
+    show("read", shellwaltz_part_read(&meter, SETTINGS, sector));
     printf("tariff %u\n", (unsigned)sector[1]);
 
-    show("report", shellwaltz_report(BLOCKS, SECTORS, LOGICAL, image, image_words, &mapped, &free_slots, &dead, &erase_sum));
-    printf("%u stored, %u free, %u dead, %u erased\n", (unsigned)mapped, (unsigned)free_slots, (unsigned)dead, (unsigned)erase_sum);
+    struct shellwaltz_totals totals = shellwaltz_part_report(&meter);
+    printf("report: %s\n", shellwaltz_meaning(totals.answer));
+    printf("%u stored, %u free, %u dead, %u erased\n", (unsigned)totals.mapped, (unsigned)totals.free_slots, (unsigned)totals.dead,
+           (unsigned)totals.erase_sum);
 
-    show("release", shellwaltz_release(BLOCKS, SECTORS, LOGICAL, image, image_words, SETTINGS, &words, &erasures));
-    show("read", shellwaltz_read(BLOCKS, SECTORS, LOGICAL, image, image_words, SETTINGS, sector, SHELLWALTZ_SECTOR_WORDS));
+    show("release", shellwaltz_part_release(&meter, SETTINGS));
+    show("read", shellwaltz_part_read(&meter, SETTINGS, sector));
+
+    /* A bit of block 2's erase count flips in the mirror: every call but a format refuses, and says where and why. */
+    image[2 * SECTORS * SHELLWALTZ_SECTOR_WORDS] |= 0x80000000u;
+    show("check", shellwaltz_part_check(&meter));
+    show("write", shellwaltz_part_write(&meter, SETTINGS, sector));
     return 0;
 }

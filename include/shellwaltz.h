@@ -9,12 +9,20 @@
  * store is not the programming of a word: after an accepted call the driver carries the changes over to the part (docs/USING.md).
  * docs/FORMAT.md says what the words of an image mean and what each call does.
  *
+ * The header has two layers. First the proved functions, with every part of what they take and give as a parameter. Below them, and
+ * shorter to call, functions over a struct for the part and results by value; they only pass on (see "The short calls").
+ *
  * What is handed in: every number may have any value, and an image or a buffer any length and contents. A pointer must be good for
- * the length handed in with it (also where that is 0), and a pointer to a count for one uint32_t. What a call writes (an image or
- * buffer that is not const, and the counts) must overlap with nothing else that is handed to it. Lengths are in words, not bytes.
+ * the length handed in with it (also where that is 0), and a pointer to a single number for one uint32_t. What a call writes (an image or
+ * buffer that is not const, and the numbers) must overlap with nothing else that is handed to it. Lengths are in words, not bytes.
  *
  * What comes back: SHELLWALTZ_OK, or the first refusal below that applies, in the order of their numbers. A refused call changes no
  * word of the image and none of the buffer, and gives 0 for every count. So a call either does all of its work or none.
+ *
+ * SHELLWALTZ_MALFORMED comes with the block and the rule (1 to 7, docs/FORMAT.md) that fail first: blocks in ascending order, and within a
+ * block its rules in the order of their numbers. A number that is live in two slots is charged to the block of the later one. Rule 6, that
+ * some block is blank, is the whole image's: it is named last, with `blocks` as the bad block. With every other answer, *bad_block and
+ * *bad_rule are 0.
  *
  * Each call's contract is proved for every input: crates/shellwaltz_c/src/lib.rt has it as equations. */
 #ifndef SHELLWALTZ_H
@@ -53,27 +61,131 @@ extern "C" {
 uint32_t shellwaltz_format(uint32_t blocks, uint32_t sectors, uint32_t logical, uint32_t *image, size_t image_words,
                            uint32_t *words, uint32_t *erasures);
 
-/* Whether the image is well formed: SHELLWALTZ_OK exactly when every rule of the format holds. Refuses 1 and 4. Changes nothing. */
-uint32_t shellwaltz_check(uint32_t blocks, uint32_t sectors, uint32_t logical, const uint32_t *image, size_t image_words);
+/* Whether the image is well formed: SHELLWALTZ_OK exactly when every rule of the format holds. Refuses 1 and 4. Changes no word of the
+ * image. */
+uint32_t shellwaltz_check(uint32_t blocks, uint32_t sectors, uint32_t logical, const uint32_t *image, size_t image_words,
+                          uint32_t *bad_block, uint32_t *bad_rule);
 
 /* How many slots hold a stored sector (*mapped), are free (*free_slots) and are dead (*dead: replaced, released or never finished; their
  * room comes back when their block is erased), and the sum of all blocks' erase counts (*erase_sum). Refuses 1 and 4. Changes no word
  * of the image. */
 uint32_t shellwaltz_report(uint32_t blocks, uint32_t sectors, uint32_t logical, const uint32_t *image, size_t image_words,
-                           uint32_t *mapped, uint32_t *free_slots, uint32_t *dead, uint32_t *erase_sum);
+                           uint32_t *mapped, uint32_t *free_slots, uint32_t *dead, uint32_t *erase_sum,
+                           uint32_t *bad_block, uint32_t *bad_rule);
 
 /* Copies the sector stored under `number` to the buffer of 128 words. Refuses 1, 2, 3, 4 and 5. Changes no word of the image. */
 uint32_t shellwaltz_read(uint32_t blocks, uint32_t sectors, uint32_t logical, const uint32_t *image, size_t image_words,
-                         uint32_t number, uint32_t *buffer, size_t buffer_words);
+                         uint32_t number, uint32_t *buffer, size_t buffer_words, uint32_t *bad_block, uint32_t *bad_rule);
 
 /* Stores the buffer of 128 words under `number`, in place of what was stored there. Refuses 1, 2, 3, 4 and 6. Gives the words that
  * it programmed and the blocks that it erased (0 or 1). Changes no word of the buffer, and what is stored under other numbers stays. */
 uint32_t shellwaltz_write(uint32_t blocks, uint32_t sectors, uint32_t logical, uint32_t *image, size_t image_words,
-                          uint32_t number, const uint32_t *buffer, size_t buffer_words, uint32_t *words, uint32_t *erasures);
+                          uint32_t number, const uint32_t *buffer, size_t buffer_words, uint32_t *words, uint32_t *erasures,
+                          uint32_t *bad_block, uint32_t *bad_rule);
 
 /* Forgets what is stored under `number`. Refuses 1, 3, 4 and 5. Gives the words that it programmed (1) and the blocks that it erased (0). */
 uint32_t shellwaltz_release(uint32_t blocks, uint32_t sectors, uint32_t logical, uint32_t *image, size_t image_words,
-                            uint32_t number, uint32_t *words, uint32_t *erasures);
+                            uint32_t number, uint32_t *words, uint32_t *erasures, uint32_t *bad_block, uint32_t *bad_rule);
+
+/* ---- The short calls: each passes the part and its own arguments on to the proved function of the same name, and nothing else. A buffer
+ * is always 128 words here, so no call of these is refused with 2. */
+
+/* A part: its geometry, and the image that mirrors it. */
+struct shellwaltz_part {
+    uint32_t blocks, sectors, logical;
+    uint32_t *image;
+    size_t image_words;
+};
+
+/* What a call gave. `words` and `erasures` are 0 where the call has no such count; `bad_block` and `bad_rule` are those of
+ * SHELLWALTZ_MALFORMED, and otherwise 0. */
+struct shellwaltz_result {
+    uint32_t answer, words, erasures, bad_block, bad_rule;
+};
+
+/* What a report gave. */
+struct shellwaltz_totals {
+    uint32_t answer, mapped, free_slots, dead, erase_sum, bad_block, bad_rule;
+};
+
+static inline struct shellwaltz_result shellwaltz_part_format(const struct shellwaltz_part *part)
+{
+    struct shellwaltz_result r = {0, 0, 0, 0, 0};
+    r.answer = shellwaltz_format(part->blocks, part->sectors, part->logical, part->image, part->image_words, &r.words, &r.erasures);
+    return r;
+}
+
+static inline struct shellwaltz_result shellwaltz_part_check(const struct shellwaltz_part *part)
+{
+    struct shellwaltz_result r = {0, 0, 0, 0, 0};
+    r.answer = shellwaltz_check(part->blocks, part->sectors, part->logical, part->image, part->image_words, &r.bad_block, &r.bad_rule);
+    return r;
+}
+
+static inline struct shellwaltz_totals shellwaltz_part_report(const struct shellwaltz_part *part)
+{
+    struct shellwaltz_totals t = {0, 0, 0, 0, 0, 0, 0};
+    t.answer = shellwaltz_report(part->blocks, part->sectors, part->logical, part->image, part->image_words, &t.mapped, &t.free_slots,
+                                 &t.dead, &t.erase_sum, &t.bad_block, &t.bad_rule);
+    return t;
+}
+
+/* To 128 words. */
+static inline struct shellwaltz_result shellwaltz_part_read(const struct shellwaltz_part *part, uint32_t number, uint32_t *buffer)
+{
+    struct shellwaltz_result r = {0, 0, 0, 0, 0};
+    r.answer = shellwaltz_read(part->blocks, part->sectors, part->logical, part->image, part->image_words, number, buffer,
+                               SHELLWALTZ_SECTOR_WORDS, &r.bad_block, &r.bad_rule);
+    return r;
+}
+
+/* From 128 words. */
+static inline struct shellwaltz_result shellwaltz_part_write(const struct shellwaltz_part *part, uint32_t number, const uint32_t *buffer)
+{
+    struct shellwaltz_result r = {0, 0, 0, 0, 0};
+    r.answer = shellwaltz_write(part->blocks, part->sectors, part->logical, part->image, part->image_words, number, buffer,
+                                SHELLWALTZ_SECTOR_WORDS, &r.words, &r.erasures, &r.bad_block, &r.bad_rule);
+    return r;
+}
+
+static inline struct shellwaltz_result shellwaltz_part_release(const struct shellwaltz_part *part, uint32_t number)
+{
+    struct shellwaltz_result r = {0, 0, 0, 0, 0};
+    r.answer = shellwaltz_release(part->blocks, part->sectors, part->logical, part->image, part->image_words, number, &r.words, &r.erasures,
+                                  &r.bad_block, &r.bad_rule);
+    return r;
+}
+
+/* ---- For logs: a sentence for each number. */
+
+static inline const char *shellwaltz_meaning(uint32_t answer)
+{
+    switch (answer) {
+    case SHELLWALTZ_OK: return "The call did what it is for.";
+    case SHELLWALTZ_BAD_GEOMETRY: return "The geometry is outside its limits, or the image has another length.";
+    case SHELLWALTZ_BAD_BUFFER: return "The buffer is not 128 words.";
+    case SHELLWALTZ_BAD_NUMBER: return "There is no logical sector of this number.";
+    case SHELLWALTZ_MALFORMED: return "The image breaks a rule of the format.";
+    case SHELLWALTZ_UNMAPPED: return "Nothing is stored under this number.";
+    case SHELLWALTZ_WORN_OUT: return "The write would erase a block that has been erased 1000000 times.";
+    default: return "This is not an answer of the library.";
+    }
+}
+
+static inline const char *shellwaltz_rule_meaning(uint32_t rule)
+{
+    switch (rule) {
+    case 0: return "No rule is named.";
+    case 1: return "The erase count of the block is above 1000000.";
+    case 2: return "The free map of the block does not agree with its entries, or has a bit clear that belongs to no slot.";
+    case 3: return "A free slot of the block has contents that are not all ones.";
+    case 4: return "An entry of the block is marked as stored, under a number that no logical sector has.";
+    case 5: return "A number is stored in the block that is also stored in an earlier slot, of it or of a block before it.";
+    case 6: return "No block is blank.";
+    case 7: return "Word 1 or 2 of the block is programmed while a slot is free, or does not bound the numbers of a full block.";
+    default: return "This is not a rule of the format.";
+    }
+}
 
 #ifdef __cplusplus
 }

@@ -56,6 +56,7 @@ static struct line run(uint32_t *image, struct record in)
 {
     uint32_t sector[SECOND_SECTOR_WORDS];
     struct line out = {'X', in.number, ANSWER_UNKNOWN_OPERATION, 0, 0, 0};
+    uint32_t bad_block, bad_rule; /* not printed */
 
     switch (in.operation) {
     case OP_WRITE:
@@ -64,21 +65,23 @@ static struct line run(uint32_t *image, struct record in)
         out.letter = 'W';
         out.answer = second_write(BLOCKS, SECTORS, LOGICAL, image, IMAGE_WORDS,
                                   in.number, sector, SECOND_SECTOR_WORDS,
-                                  &out.words, &out.erasures);
+                                  &out.words, &out.erasures, &bad_block,
+                                  &bad_rule);
         break;
     case OP_READ:
         /* A refused read leaves the buffer alone, and then 0 is printed. */
         sector[0] = 0;
         out.letter = 'R';
         out.answer = second_read(BLOCKS, SECTORS, LOGICAL, image, IMAGE_WORDS,
-                                 in.number, sector, SECOND_SECTOR_WORDS);
+                                 in.number, sector, SECOND_SECTOR_WORDS,
+                                 &bad_block, &bad_rule);
         out.first = sector[0];
         break;
     case OP_RELEASE:
         out.letter = 'D';
         out.answer = second_release(BLOCKS, SECTORS, LOGICAL, image,
                                     IMAGE_WORDS, in.number, &out.words,
-                                    &out.erasures);
+                                    &out.erasures, &bad_block, &bad_rule);
         break;
     default:
         break;
@@ -101,6 +104,7 @@ int main(void)
 {
     static uint32_t image[IMAGE_WORDS];
     uint32_t words, erasures, mapped, free_slots, dead, erase_sum;
+    uint32_t bad_block, bad_rule;
 
     if (second_format(BLOCKS, SECTORS, LOGICAL, image, IMAGE_WORDS, &words,
                       &erasures) != SECOND_OK)
@@ -111,7 +115,8 @@ int main(void)
         return 1;
     }
     if (second_report(BLOCKS, SECTORS, LOGICAL, image, IMAGE_WORDS, &mapped,
-                      &free_slots, &dead, &erase_sum) != SECOND_OK)
+                      &free_slots, &dead, &erase_sum, &bad_block,
+                      &bad_rule) != SECOND_OK)
         return 1;
     printf("T %" PRIu32 " %" PRIu32 " %" PRIu32 " %" PRIu32 "\n", mapped,
            free_slots, dead, erase_sum);

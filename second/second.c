@@ -19,6 +19,9 @@
 #define NUMBER_MASK UINT32_C(0x1FFFFFFF)
 #define FREE_ENTRY ONES
 
+/* A set of broken rules has bit r for rule r. */
+#define RULE(r) (UINT32_C(1) << (r))
+
 #define MAP_BITS 32u
 #define MARK_WORDS (SECOND_MOST_LOGICAL / 32u)
 
@@ -112,7 +115,8 @@ static size_t content_place(struct second_geometry g, struct spot at)
 static uint32_t count_ones(uint32_t word)
 {
     word -= (word >> 1) & UINT32_C(0x55555555);
-    word = (word & UINT32_C(0x33333333)) + ((word >> 2) & UINT32_C(0x33333333));
+    word = (word & UINT32_C(0x33333333)) +
+           ((word >> 2) & UINT32_C(0x33333333));
     word = (word + (word >> 4)) & UINT32_C(0x0F0F0F0F);
     return (word * UINT32_C(0x01010101)) >> 24;
 }
@@ -148,15 +152,6 @@ static bool looks_live(uint32_t entry)
 
 /* ---- Check ------------------------------------------------------------- */
 
-/* The rest of R2: the map bits that belong to no slot are set. */
-static bool padding_is_ones(struct second_geometry g, const uint32_t *head)
-{
-    uint32_t used = second_slots(g) % MAP_BITS;
-    uint32_t padding = used == 0u ? 0u : ONES << used;
-
-    return (head[FREE_MAP + second_map_words(g) - 1u] & padding) == padding;
-}
-
 /* Marks the number; false when it already was. */
 static bool mark(uint32_t *marks, uint32_t number)
 {
@@ -167,64 +162,124 @@ static bool mark(uint32_t *marks, uint32_t number)
     return fresh;
 }
 
-/* R1 to R5 and R7 for one block, with the marks of the blocks before it. */
-static bool block_well_formed(struct second_geometry g, const uint32_t *head,
-                              uint32_t *marks, bool *blank)
+/* What one look at a block gives. */
+struct findings {
+    uint32_t broken; /* the rules that the block breaks */
+    uint32_t free_slots;
+    uint32_t least; /* of the numbers live in the block */
+    uint32_t greatest;
+};
+
+/* R4 and R5 for an entry that looks live.  Marked are the numbers of the slots
+ * before it, so of two slots with one number the later is found at fault. */
+static void inspect_number(struct second_geometry g, uint32_t number,
+                           uint32_t *marks, struct findings *found)
 {
-    const uint32_t *map = head + FREE_MAP;
-    const uint32_t *entries = map + second_map_words(g);
-    const uint32_t *contents = head + SECOND_SECTOR_WORDS;
-    uint32_t slots = second_slots(g);
-    uint32_t free_slots = 0;
-    /* With no live number these hold R7 true whatever words 1 and 2 are. */
-    uint32_t least = ONES;
-    uint32_t greatest = 0;
-
-    if (head[ERASE_COUNT] > SECOND_CEILING) /* R1 */
-        return false;
-    if (!padding_is_ones(g, head)) /* R2 */
-        return false;
-    for (uint32_t slot = 0; slot < slots; slot++) {
-        uint32_t entry = entries[slot];
-        bool is_free = entry == FREE_ENTRY;
-
-        if (((map[slot / MAP_BITS] & map_bit(slot)) != 0u) != is_free) /* R2 */
-            return false;
-        if (is_free) {
-            if (!all_ones(contents + SECOND_SECTOR_WORDS * slot)) /* R3 */
-                return false;
-            free_slots++;
-        } else if (looks_live(entry)) {
-            uint32_t number = entry & NUMBER_MASK;
-
-            /* R4 comes first: it keeps the mark within the marks. */
-            if (number >= g.logical || !mark(marks, number)) /* R4, R5 */
-                return false;
-            if (number < least)
-                least = number;
-            if (number > greatest)
-                greatest = number;
-        }
+    if (number >= g.logical) {
+        /* Not live, and it has no place among the marks. */
+        found->broken |= RULE(4);
+        return;
     }
-    *blank = free_slots == slots;
-    if (free_slots > 0u) /* R7 */
-        return head[LEAST_MAPPED] == ONES && head[GREATEST_MAPPED] == ONES;
-    return head[LEAST_MAPPED] <= least && greatest <= head[GREATEST_MAPPED];
+    if (!mark(marks, number))
+        found->broken |= RULE(5);
+    if (number < found->least)
+        found->least = number;
+    if (number > found->greatest)
+        found->greatest = number;
 }
 
-static bool well_formed(struct second_geometry g, const uint32_t *image)
+/* R3 to R5 for the slots of one word of the free map.  Gives the word that R2
+ * asks for: a bit is set where the slot is free and where there is none. */
+static uint32_t inspect_slots(struct second_geometry g, const uint32_t *head,
+                              uint32_t first, uint32_t *marks,
+                              struct findings *found)
+{
+    const uint32_t *entries = head + FREE_MAP + second_map_words(g);
+    const uint32_t *contents = head + SECOND_SECTOR_WORDS;
+    uint32_t rest = second_slots(g) - first;
+    uint32_t end = first + (rest < MAP_BITS ? rest : MAP_BITS);
+    uint32_t asked = ONES;
+
+    for (uint32_t slot = first; slot < end; slot++) {
+        uint32_t entry = entries[slot];
+
+        if (entry == FREE_ENTRY) {
+            if (!all_ones(contents + SECOND_SECTOR_WORDS * slot))
+                found->broken |= RULE(3);
+            found->free_slots++;
+        } else {
+            asked &= ~map_bit(slot);
+            if (looks_live(entry))
+                inspect_number(g, entry & NUMBER_MASK, marks, found);
+        }
+    }
+    return asked;
+}
+
+/* R7 for a block whose slots have been looked at. */
+static bool range_fits(const uint32_t *head, const struct findings *found)
+{
+    if (found->free_slots > 0u)
+        return head[LEAST_MAPPED] == ONES && head[GREATEST_MAPPED] == ONES;
+    return head[LEAST_MAPPED] <= found->least &&
+           found->greatest <= head[GREATEST_MAPPED];
+}
+
+/* A broken rule does not end the look: one that goes before it may be broken
+ * further on in the block. */
+static struct findings inspect_block(struct second_geometry g,
+                                     const uint32_t *head, uint32_t *marks)
+{
+    /* With no live number these hold R7 true whatever words 1 and 2 are. */
+    struct findings found = {.least = ONES, .greatest = 0};
+
+    if (head[ERASE_COUNT] > SECOND_CEILING)
+        found.broken |= RULE(1);
+    for (uint32_t slot = 0; slot < second_slots(g); slot += MAP_BITS) {
+        uint32_t asked = inspect_slots(g, head, slot, marks, &found);
+
+        if (head[FREE_MAP + slot / MAP_BITS] != asked)
+            found.broken |= RULE(2);
+    }
+    if (!range_fits(head, &found))
+        found.broken |= RULE(7);
+    return found;
+}
+
+/* A rule and the block charged with breaking it; 0 and 0 for no fault. */
+struct fault {
+    uint32_t block;
+    uint32_t rule;
+};
+
+static struct fault first_fault(struct second_geometry g,
+                                const uint32_t *image)
 {
     uint32_t marks[MARK_WORDS] = {0};
     bool any_blank = false;
 
     for (uint32_t block = 0; block < g.blocks; block++) {
-        bool blank;
+        struct findings found =
+            inspect_block(g, image + block_place(g, block), marks);
 
-        if (!block_well_formed(g, image + block_place(g, block), marks, &blank))
-            return false;
-        any_blank = any_blank || blank;
+        /* The rules go by their numbers, so the lowest bit is the first. */
+        if (found.broken != 0u)
+            return (struct fault){block, trailing_zeros(found.broken)};
+        any_blank = any_blank || found.free_slots == second_slots(g);
     }
-    return any_blank; /* R6 */
+    if (!any_blank) /* R6 */
+        return (struct fault){g.blocks, 6};
+    return (struct fault){0, 0};
+}
+
+static bool well_formed(struct second_geometry g, const uint32_t *image,
+                        uint32_t *bad_block, uint32_t *bad_rule)
+{
+    struct fault first = first_fault(g, image);
+
+    *bad_block = first.block;
+    *bad_rule = first.rule;
+    return first.rule == 0u;
 }
 
 /* ---- Looking into a well-formed image ---------------------------------- */
@@ -438,38 +493,22 @@ static void reclaim(struct second_geometry g, uint32_t *image, uint32_t victim,
     program(done, head + ERASE_COUNT, count + 1u);
 }
 
-uint32_t second_write(uint32_t blocks, uint32_t sectors, uint32_t logical,
-                      uint32_t *image, size_t image_words,
-                      uint32_t number, const uint32_t *buffer,
-                      size_t buffer_words,
-                      uint32_t *words, uint32_t *erasures)
+/* The write in a well-formed image: done, or refused before its first step. */
+static uint32_t write_number(struct second_geometry g, uint32_t *image,
+                             uint32_t number, const uint32_t *data,
+                             struct tally *done)
 {
-    struct second_geometry g = {blocks, sectors, logical};
-    struct tally done = {0, 0};
-    struct survey seen;
+    struct survey seen = survey_blocks(g, image);
     struct spot to;
     struct spot at;
     uint32_t *old;
 
-    *words = 0;
-    *erasures = 0;
-    if (!image_fits(g, image_words))
-        return SECOND_BAD_GEOMETRY;
-    if (buffer_words != SECOND_SECTOR_WORDS)
-        return SECOND_BAD_BUFFER;
-    if (number >= logical)
-        return SECOND_BAD_NUMBER;
-    if (!well_formed(g, image))
-        return SECOND_BAD_IMAGE;
-
-    seen = survey_blocks(g, image);
     if (seen.open_blocks == 0u && seen.blank_blocks == 1u) {
         uint32_t victim = choose_victim(g, image);
 
-        /* Before the first step: a refusal leaves no trace. */
         if (image[block_place(g, victim) + ERASE_COUNT] == SECOND_CEILING)
             return SECOND_WORN_OUT;
-        reclaim(g, image, victim, seen.best_blank, &done);
+        reclaim(g, image, victim, seen.best_blank, done);
         seen = survey_blocks(g, image);
     }
     if (seen.open_blocks > 0u)
@@ -480,11 +519,38 @@ uint32_t second_write(uint32_t blocks, uint32_t sectors, uint32_t logical,
 
     /* Only now: the reclaim may have moved the old slot. */
     old = find_live(g, image, number, &at) ? image + entry_place(g, at) : NULL;
-    place(g, image, to, number, buffer, old, &done);
+    place(g, image, to, number, data, old, done);
+    return SECOND_OK;
+}
 
+uint32_t second_write(uint32_t blocks, uint32_t sectors, uint32_t logical,
+                      uint32_t *image, size_t image_words,
+                      uint32_t number, const uint32_t *buffer,
+                      size_t buffer_words,
+                      uint32_t *words, uint32_t *erasures,
+                      uint32_t *bad_block, uint32_t *bad_rule)
+{
+    struct second_geometry g = {blocks, sectors, logical};
+    struct tally done = {0, 0};
+    uint32_t answer;
+
+    *words = 0;
+    *erasures = 0;
+    *bad_block = 0;
+    *bad_rule = 0;
+    if (!image_fits(g, image_words))
+        return SECOND_BAD_GEOMETRY;
+    if (buffer_words != SECOND_SECTOR_WORDS)
+        return SECOND_BAD_BUFFER;
+    if (number >= logical)
+        return SECOND_BAD_NUMBER;
+    if (!well_formed(g, image, bad_block, bad_rule))
+        return SECOND_BAD_IMAGE;
+
+    answer = write_number(g, image, number, buffer, &done);
     *words = (uint32_t)done.words;
     *erasures = (uint32_t)done.erasures;
-    return SECOND_OK;
+    return answer;
 }
 
 /* ---- The other calls --------------------------------------------------- */
@@ -509,19 +575,25 @@ uint32_t second_format(uint32_t blocks, uint32_t sectors, uint32_t logical,
 }
 
 uint32_t second_check(uint32_t blocks, uint32_t sectors, uint32_t logical,
-                      const uint32_t *image, size_t image_words)
+                      const uint32_t *image, size_t image_words,
+                      uint32_t *bad_block, uint32_t *bad_rule)
 {
     struct second_geometry g = {blocks, sectors, logical};
 
+    *bad_block = 0;
+    *bad_rule = 0;
     if (!image_fits(g, image_words))
         return SECOND_BAD_GEOMETRY;
-    return well_formed(g, image) ? SECOND_OK : SECOND_BAD_IMAGE;
+    if (!well_formed(g, image, bad_block, bad_rule))
+        return SECOND_BAD_IMAGE;
+    return SECOND_OK;
 }
 
 uint32_t second_report(uint32_t blocks, uint32_t sectors, uint32_t logical,
                        const uint32_t *image, size_t image_words,
                        uint32_t *mapped, uint32_t *free_slots,
-                       uint32_t *dead, uint32_t *erase_sum)
+                       uint32_t *dead, uint32_t *erase_sum,
+                       uint32_t *bad_block, uint32_t *bad_rule)
 {
     struct second_geometry g = {blocks, sectors, logical};
 
@@ -529,9 +601,11 @@ uint32_t second_report(uint32_t blocks, uint32_t sectors, uint32_t logical,
     *free_slots = 0;
     *dead = 0;
     *erase_sum = 0;
+    *bad_block = 0;
+    *bad_rule = 0;
     if (!image_fits(g, image_words))
         return SECOND_BAD_GEOMETRY;
-    if (!well_formed(g, image))
+    if (!well_formed(g, image, bad_block, bad_rule))
         return SECOND_BAD_IMAGE;
 
     for (uint32_t block = 0; block < blocks; block++) {
@@ -549,18 +623,21 @@ uint32_t second_report(uint32_t blocks, uint32_t sectors, uint32_t logical,
 
 uint32_t second_read(uint32_t blocks, uint32_t sectors, uint32_t logical,
                      const uint32_t *image, size_t image_words,
-                     uint32_t number, uint32_t *buffer, size_t buffer_words)
+                     uint32_t number, uint32_t *buffer, size_t buffer_words,
+                     uint32_t *bad_block, uint32_t *bad_rule)
 {
     struct second_geometry g = {blocks, sectors, logical};
     struct spot at;
 
+    *bad_block = 0;
+    *bad_rule = 0;
     if (!image_fits(g, image_words))
         return SECOND_BAD_GEOMETRY;
     if (buffer_words != SECOND_SECTOR_WORDS)
         return SECOND_BAD_BUFFER;
     if (number >= logical)
         return SECOND_BAD_NUMBER;
-    if (!well_formed(g, image))
+    if (!well_formed(g, image, bad_block, bad_rule))
         return SECOND_BAD_IMAGE;
     if (!find_live(g, image, number, &at))
         return SECOND_NOT_MAPPED;
@@ -573,7 +650,8 @@ uint32_t second_read(uint32_t blocks, uint32_t sectors, uint32_t logical,
 uint32_t second_release(uint32_t blocks, uint32_t sectors, uint32_t logical,
                         uint32_t *image, size_t image_words,
                         uint32_t number,
-                        uint32_t *words, uint32_t *erasures)
+                        uint32_t *words, uint32_t *erasures,
+                        uint32_t *bad_block, uint32_t *bad_rule)
 {
     struct second_geometry g = {blocks, sectors, logical};
     struct tally done = {0, 0};
@@ -582,11 +660,13 @@ uint32_t second_release(uint32_t blocks, uint32_t sectors, uint32_t logical,
 
     *words = 0;
     *erasures = 0;
+    *bad_block = 0;
+    *bad_rule = 0;
     if (!image_fits(g, image_words))
         return SECOND_BAD_GEOMETRY;
     if (number >= logical)
         return SECOND_BAD_NUMBER;
-    if (!well_formed(g, image))
+    if (!well_formed(g, image, bad_block, bad_rule))
         return SECOND_BAD_IMAGE;
     if (!find_live(g, image, number, &at))
         return SECOND_NOT_MAPPED;

@@ -1,12 +1,20 @@
 /* NOR sector layer over a lent image of 32-bit words.
  *
- * The image, the sector buffer and the places for the counts belong to the
- * caller; nothing is kept between calls.  A pointer must be good for the
- * length handed in with it, the places for the counts must be good, and no
- * two of the regions may overlap.  The numbers may have any value.
+ * The image, the sector buffer and the places for what a call tells beside
+ * its answer belong to the caller; nothing is kept between calls.  A pointer
+ * must be good for the length handed in with it, those places must be good,
+ * and no two of the regions may overlap.  The numbers may have any value.
  *
  * Every call answers 0 or the first refusal that applies.  A refused call
- * changes no word of the image or of the buffer and reports zeros. */
+ * changes no word of the image or of the buffer and reports zeros.
+ *
+ * The calls that look at the image also name its first fault.  Beside the
+ * answer 4, bad_rule is the rule that is broken, 1 to 7, and bad_block the
+ * block charged with it.  That is the lowest block with a fault and, however
+ * its faults lie in it, the lowest of the rules it breaks.  A number live in
+ * two slots is charged to the block of the second.  Rule 6 is no single
+ * block's: it is named when every block is faultless, and then bad_block is
+ * the number of blocks.  Beside every other answer both are 0. */
 #ifndef SECOND_H
 #define SECOND_H
 
@@ -51,26 +59,31 @@ uint32_t second_format(uint32_t blocks, uint32_t sectors, uint32_t logical,
                        uint32_t *words, uint32_t *erasures);
 
 uint32_t second_check(uint32_t blocks, uint32_t sectors, uint32_t logical,
-                      const uint32_t *image, size_t image_words);
+                      const uint32_t *image, size_t image_words,
+                      uint32_t *bad_block, uint32_t *bad_rule);
 
 uint32_t second_report(uint32_t blocks, uint32_t sectors, uint32_t logical,
                        const uint32_t *image, size_t image_words,
                        uint32_t *mapped, uint32_t *free_slots,
-                       uint32_t *dead, uint32_t *erase_sum);
+                       uint32_t *dead, uint32_t *erase_sum,
+                       uint32_t *bad_block, uint32_t *bad_rule);
 
 uint32_t second_read(uint32_t blocks, uint32_t sectors, uint32_t logical,
                      const uint32_t *image, size_t image_words,
-                     uint32_t number, uint32_t *buffer, size_t buffer_words);
+                     uint32_t number, uint32_t *buffer, size_t buffer_words,
+                     uint32_t *bad_block, uint32_t *bad_rule);
 
 uint32_t second_write(uint32_t blocks, uint32_t sectors, uint32_t logical,
                       uint32_t *image, size_t image_words,
                       uint32_t number, const uint32_t *buffer,
                       size_t buffer_words,
-                      uint32_t *words, uint32_t *erasures);
+                      uint32_t *words, uint32_t *erasures,
+                      uint32_t *bad_block, uint32_t *bad_rule);
 
 uint32_t second_release(uint32_t blocks, uint32_t sectors, uint32_t logical,
                         uint32_t *image, size_t image_words,
                         uint32_t number,
-                        uint32_t *words, uint32_t *erasures);
+                        uint32_t *words, uint32_t *erasures,
+                        uint32_t *bad_block, uint32_t *bad_rule);
 
 #endif

@@ -1,6 +1,7 @@
-/* Tests.  Beside the library stand a slow check that tells the rules apart, a
- * second account of write and release that stores results instead of taking
- * steps, and a plain array of what every sector ought to hold. */
+/* Tests.  Beside the library stand a slow check that asks each rule of each
+ * block by itself, a second account of write and release that stores results
+ * instead of taking steps, and a plain array of what every sector ought to
+ * hold. */
 #include "second.h"
 
 #include <stdio.h>
@@ -27,7 +28,7 @@ static void check_at(bool good, const char *what, int line)
 
 #define CHECK(what) check_at((what), #what, __LINE__)
 
-/* ---- Random numbers, the same in every run ------------------------------- */
+/* ---- Random numbers, the same in every run ------------------------------ */
 
 static uint64_t seed = UINT64_C(0x9E3779B97F4A7C15);
 
@@ -44,7 +45,7 @@ static uint32_t below(uint32_t limit)
     return rnd() % limit;
 }
 
-/* ---- Shape of an image, worked out apart from the library ---------------- */
+/* ---- Shape of an image, worked out apart from the library --------------- */
 
 struct shape {
     uint32_t b, s, l;
@@ -99,63 +100,80 @@ static uint32_t count_kind(struct shape g, uint32_t *im, uint32_t b,
     return n;
 }
 
-/* ---- Slow check: bit r of the answer is set when rule r is broken -------- */
+/* ---- Slow check: each rule of each block by itself ---------------------- */
 
-static bool breaks_r1(struct shape g, uint32_t *im)
+static bool breaks_r1(struct shape g, uint32_t *im, uint32_t b)
 {
-    for (uint32_t b = 0; b < g.b; b++)
-        if (head_of(g, im, b)[0] > 1000000)
+    return head_of(g, im, b)[0] > 1000000;
+}
+
+static bool breaks_r2(struct shape g, uint32_t *im, uint32_t b)
+{
+    for (uint32_t i = 0; i < 32 * k_of(g); i++) {
+        bool ought = i >= d_of(g) || *entry_of(g, im, b, i) == ONES;
+
+        if (bit(*map_of(g, im, b, i), i % 32) != ought)
             return true;
+    }
     return false;
 }
 
-static bool breaks_r2(struct shape g, uint32_t *im)
+static bool breaks_r3(struct shape g, uint32_t *im, uint32_t b)
 {
-    for (uint32_t b = 0; b < g.b; b++)
-        for (uint32_t i = 0; i < 32 * k_of(g); i++) {
-            bool ought = i >= d_of(g) || *entry_of(g, im, b, i) == ONES;
+    for (uint32_t s = 0; s < d_of(g); s++) {
+        uint32_t *data = data_of(g, im, b, s);
 
-            if (bit(*map_of(g, im, b, i), i % 32) != ought)
+        if (*entry_of(g, im, b, s) != ONES)
+            continue;
+        for (uint32_t i = 0; i < 128; i++)
+            if (data[i] != ONES)
+                return true;
+    }
+    return false;
+}
+
+static bool breaks_r4(struct shape g, uint32_t *im, uint32_t b)
+{
+    return count_kind(g, im, b, FAULT) > 0;
+}
+
+/* Slots are numbered through the image here; the later is the one in b. */
+static bool breaks_r5(struct shape g, uint32_t *im, uint32_t b)
+{
+    uint32_t d = d_of(g);
+
+    for (uint32_t later = b * d; later < (b + 1) * d; later++) {
+        uint32_t e = *entry_of(g, im, b, later % d);
+
+        if (kind_of(g, e) != LIVING)
+            continue;
+        for (uint32_t i = 0; i < later; i++) {
+            uint32_t f = *entry_of(g, im, i / d, i % d);
+
+            if (kind_of(g, f) == LIVING && number_of(f) == number_of(e))
                 return true;
         }
+    }
     return false;
 }
 
-static bool breaks_r3(struct shape g, uint32_t *im)
+static bool breaks_r7(struct shape g, uint32_t *im, uint32_t b)
 {
-    for (uint32_t b = 0; b < g.b; b++)
-        for (uint32_t s = 0; s < d_of(g); s++)
-            for (uint32_t i = 0; i < 128; i++)
-                if (*entry_of(g, im, b, s) == ONES &&
-                    data_of(g, im, b, s)[i] != ONES)
-                    return true;
-    return false;
-}
+    uint32_t *h = head_of(g, im, b);
 
-static bool breaks_r4(struct shape g, uint32_t *im)
-{
-    for (uint32_t b = 0; b < g.b; b++)
-        if (count_kind(g, im, b, FAULT) > 0)
+    if (count_kind(g, im, b, FREE) > 0)
+        return h[1] != ONES || h[2] != ONES;
+    for (uint32_t s = 0; s < d_of(g); s++) {
+        uint32_t e = *entry_of(g, im, b, s);
+
+        if (kind_of(g, e) == LIVING &&
+            (h[1] > number_of(e) || number_of(e) > h[2]))
             return true;
+    }
     return false;
 }
 
-static bool breaks_r5(struct shape g, uint32_t *im)
-{
-    uint32_t all = g.b * d_of(g);
-
-    for (uint32_t i = 0; i < all; i++)
-        for (uint32_t j = 0; j < i; j++) {
-            uint32_t e = *entry_of(g, im, i / d_of(g), i % d_of(g));
-            uint32_t f = *entry_of(g, im, j / d_of(g), j % d_of(g));
-
-            if (kind_of(g, e) == LIVING && kind_of(g, f) == LIVING &&
-                number_of(e) == number_of(f))
-                return true;
-        }
-    return false;
-}
-
+/* The one rule that is asked of the image as a whole. */
 static bool breaks_r6(struct shape g, uint32_t *im)
 {
     for (uint32_t b = 0; b < g.b; b++)
@@ -164,36 +182,47 @@ static bool breaks_r6(struct shape g, uint32_t *im)
     return true;
 }
 
-static bool breaks_r7(struct shape g, uint32_t *im)
-{
-    for (uint32_t b = 0; b < g.b; b++) {
-        uint32_t *h = head_of(g, im, b);
+/* The rules of a block in the order in which they are gone through. */
+static const struct {
+    uint32_t rule;
+    bool (*breaks)(struct shape g, uint32_t *im, uint32_t b);
+} block_rules[] = {
+    {1, breaks_r1}, {2, breaks_r2}, {3, breaks_r3},
+    {4, breaks_r4}, {5, breaks_r5}, {7, breaks_r7},
+};
 
-        if (count_kind(g, im, b, FREE) > 0) {
-            if (h[1] != ONES || h[2] != ONES)
-                return true;
-            continue;
-        }
-        for (uint32_t s = 0; s < d_of(g); s++) {
-            uint32_t e = *entry_of(g, im, b, s);
+#define BLOCK_RULES (sizeof block_rules / sizeof block_rules[0])
 
-            if (kind_of(g, e) == LIVING &&
-                (h[1] > number_of(e) || number_of(e) > h[2]))
-                return true;
-        }
-    }
-    return false;
-}
-
+/* All the rules that are broken somewhere: bit r stands for rule r. */
 static uint32_t broken(struct shape g, uint32_t *im)
 {
-    return (uint32_t)breaks_r1(g, im) << 1 | (uint32_t)breaks_r2(g, im) << 2 |
-           (uint32_t)breaks_r3(g, im) << 3 | (uint32_t)breaks_r4(g, im) << 4 |
-           (uint32_t)breaks_r5(g, im) << 5 | (uint32_t)breaks_r6(g, im) << 6 |
-           (uint32_t)breaks_r7(g, im) << 7;
+    uint32_t rules = (uint32_t)breaks_r6(g, im) << 6;
+
+    for (uint32_t b = 0; b < g.b; b++)
+        for (size_t i = 0; i < BLOCK_RULES; i++)
+            if (block_rules[i].breaks(g, im, b))
+                rules |= UINT32_C(1) << block_rules[i].rule;
+    return rules;
 }
 
-/* ---- Second account of write and release --------------------------------- */
+struct pair {
+    uint32_t block, rule;
+};
+
+static const struct pair no_fault = {0, 0};
+
+static struct pair first_fault(struct shape g, uint32_t *im)
+{
+    for (uint32_t b = 0; b < g.b; b++)
+        for (size_t i = 0; i < BLOCK_RULES; i++)
+            if (block_rules[i].breaks(g, im, b))
+                return (struct pair){b, block_rules[i].rule};
+    if (breaks_r6(g, im))
+        return (struct pair){g.b, 6};
+    return no_fault;
+}
+
+/* ---- Second account of write and release -------------------------------- */
 
 static uint32_t *model_find(struct shape g, uint32_t *im, uint32_t n)
 {
@@ -320,10 +349,14 @@ static uint32_t model_release(struct shape g, uint32_t *im, uint32_t n,
     return 0;
 }
 
-/* ---- Calls, shortened ---------------------------------------------------- */
+/* ---- Calls, shortened --------------------------------------------------- */
 
 static uint32_t words, erasures; /* of the last call */
 static uint32_t report[4];       /* mapped, free, dead, erase sum */
+static struct pair bad;          /* of the last call that gives one */
+
+/* Stands for an answer that came with another pair than it ought to. */
+#define WRONG_PAIR UINT32_C(99)
 
 /* Exactly as long as the image, so that a step outside is caught. */
 static uint32_t *lend(struct shape g)
@@ -335,39 +368,72 @@ static uint32_t *lend(struct shape g)
     return im;
 }
 
-static uint32_t do_format(struct shape g, uint32_t *im)
+static uint32_t *copy_of(struct shape g, const uint32_t *im)
+{
+    return memcpy(lend(g), im, len_of(g) * sizeof *im);
+}
+
+static bool bad_is(struct pair want)
+{
+    return bad.block == want.block && bad.rule == want.rule;
+}
+
+/* Before a call: what it does not set is seen. */
+static void poison(void)
 {
     words = erasures = POISON;
+    bad = (struct pair){POISON, POISON};
+    memset(report, 0xA5, sizeof report);
+}
+
+/* After a call: its answer, if the pair is the one that belongs to it. */
+static uint32_t judged(struct shape g, uint32_t *im, uint32_t answer)
+{
+    struct pair want = answer == 4 ? first_fault(g, im) : no_fault;
+
+    return bad_is(want) ? answer : WRONG_PAIR;
+}
+
+static uint32_t do_format(struct shape g, uint32_t *im)
+{
+    poison();
     return second_format(g.b, g.s, g.l, im, len_of(g), &words, &erasures);
 }
 
-static uint32_t do_check(struct shape g, const uint32_t *im)
+static uint32_t do_check(struct shape g, uint32_t *im)
 {
-    return second_check(g.b, g.s, g.l, im, len_of(g));
+    poison();
+    return judged(g, im, second_check(g.b, g.s, g.l, im, len_of(g),
+                                      &bad.block, &bad.rule));
 }
 
-static uint32_t do_report(struct shape g, const uint32_t *im)
+static uint32_t do_report(struct shape g, uint32_t *im)
 {
-    memset(report, 0xA5, sizeof report);
-    return second_report(g.b, g.s, g.l, im, len_of(g), &report[0], &report[1],
-                         &report[2], &report[3]);
+    poison();
+    return judged(g, im, second_report(g.b, g.s, g.l, im, len_of(g),
+                                       &report[0], &report[1], &report[2],
+                                       &report[3], &bad.block, &bad.rule));
 }
 
-static uint32_t do_read(struct shape g, const uint32_t *im, uint32_t n,
+static uint32_t do_read(struct shape g, uint32_t *im, uint32_t n,
                         uint32_t *buffer)
 {
-    return second_read(g.b, g.s, g.l, im, len_of(g), n, buffer, 128);
+    poison();
+    return judged(g, im, second_read(g.b, g.s, g.l, im, len_of(g), n, buffer,
+                                     128, &bad.block, &bad.rule));
 }
 
 static uint32_t do_write(struct shape g, uint32_t *im, uint32_t n,
                          const uint32_t *buffer)
 {
-    words = erasures = POISON;
-    return second_write(g.b, g.s, g.l, im, len_of(g), n, buffer, 128, &words,
-                        &erasures);
+    poison();
+    return judged(g, im, second_write(g.b, g.s, g.l, im, len_of(g), n, buffer,
+                                      128, &words, &erasures, &bad.block,
+                                      &bad.rule));
 }
 
-static uint32_t do_fill(struct shape g, uint32_t *im, uint32_t n, uint32_t fill)
+static uint32_t do_fill(struct shape g, uint32_t *im, uint32_t n,
+                        uint32_t fill)
 {
     uint32_t buffer[SECTOR];
 
@@ -378,8 +444,10 @@ static uint32_t do_fill(struct shape g, uint32_t *im, uint32_t n, uint32_t fill)
 
 static uint32_t do_release(struct shape g, uint32_t *im, uint32_t n)
 {
-    words = erasures = POISON;
-    return second_release(g.b, g.s, g.l, im, len_of(g), n, &words, &erasures);
+    poison();
+    return judged(g, im, second_release(g.b, g.s, g.l, im, len_of(g), n,
+                                        &words, &erasures, &bad.block,
+                                        &bad.rule));
 }
 
 static uint32_t *fresh(struct shape g)
@@ -395,7 +463,7 @@ static bool counts_are(uint32_t w, uint32_t e)
     return words == w && erasures == e;
 }
 
-static bool report_is(struct shape g, const uint32_t *im, uint32_t mapped,
+static bool report_is(struct shape g, uint32_t *im, uint32_t mapped,
                       uint32_t free_slots, uint32_t dead, uint32_t sum)
 {
     return do_report(g, im) == 0 && report[0] == mapped &&
@@ -423,7 +491,7 @@ static void seat(struct shape g, uint32_t *im, uint32_t b, uint32_t s,
     *map_of(g, im, b, s) &= ~(UINT32_C(1) << s % 32);
 }
 
-/* ---- Geometry: P1 to P4 -------------------------------------------------- */
+/* ---- Geometry: P1 to P4 ------------------------------------------------- */
 
 static bool derives(struct shape g, uint32_t d, uint32_t k, size_t length,
                     uint32_t gain)
@@ -494,7 +562,7 @@ static void test_p2_p3_p4(void)
     CHECK(derives((struct shape){4, 34, 1}, 33, 2, 17408, 33));
 }
 
-/* ---- Entries and steps: P5 to P9 ----------------------------------------- */
+/* ---- Entries and steps: P5 to P9 ---------------------------------------- */
 
 static void test_p5(void)
 {
@@ -569,7 +637,7 @@ static void test_p9(void)
     free(im);
 }
 
-/* ---- The cases without a mark -------------------------------------------- */
+/* ---- The cases without a mark ------------------------------------------- */
 
 static void test_106_writes(void)
 {
@@ -584,8 +652,8 @@ static void test_106_writes(void)
     CHECK(report_is(g, im, 1, 15, 104, 0));
     CHECK(do_fill(g, im, 0, 106) == 0 && counts_are(134, 1));
     CHECK(im[0] == 1 && all_are(im + 1, 2047, ONES));
-    CHECK(*entry_of(g, im, 7, 0) == LIVE && *map_of(g, im, 7, 0) == 0xFFFFFFFE);
-    CHECK(head_of(g, im, 7)[0] == 0);
+    CHECK(*entry_of(g, im, 7, 0) == LIVE && head_of(g, im, 7)[0] == 0);
+    CHECK(*map_of(g, im, 7, 0) == 0xFFFFFFFE);
     CHECK(*entry_of(g, im, 6, 14) == 0);
     CHECK(do_read(g, im, 0, got) == 0 && all_are(got, 128, 106));
     CHECK(report_is(g, im, 1, 29, 90, 1));
@@ -669,13 +737,19 @@ static void test_victim(void)
     CHECK(do_read(g, im, 1, got) == 0 && all_are(got, 128, 9));
     CHECK(all_are(data_of(g, im, 3, 0), 128, 2));
     free(im);
+}
 
-    /* Equal in counts too: the lowest number. */
-    im = three_full(g);
+/* Equal in dead slots and in counts: the lowest number. */
+static void test_victim_by_number(void)
+{
+    struct shape g = {4, 3, 5};
+    uint32_t *im = three_full(g);
+
     *entry_of(g, im, 0, 1) = LIVE + 4;
     CHECK(do_fill(g, im, 0, 9) == 0 && counts_are(133 + 1 + 133, 1));
     CHECK(head_of(g, im, 0)[0] == 1 && head_of(g, im, 1)[0] == 0);
-    CHECK(*entry_of(g, im, 3, 0) == LIVE + 4 && *entry_of(g, im, 3, 1) == LIVE);
+    CHECK(*entry_of(g, im, 3, 0) == LIVE + 4);
+    CHECK(*entry_of(g, im, 3, 1) == LIVE);
     CHECK(head_of(g, im, 3)[1] == 0 && head_of(g, im, 3)[2] == 4);
     free(im);
 }
@@ -708,7 +782,7 @@ static void test_choice_of_slot(void)
     free(im);
 }
 
-/* ---- Words the rules say nothing of -------------------------------------- */
+/* ---- Words the rules say nothing of ------------------------------------- */
 
 static void test_unused_words(void)
 {
@@ -730,7 +804,7 @@ static void test_unused_words(void)
     free(im);
 }
 
-/* ---- Refusals ------------------------------------------------------------ */
+/* ---- Refusals ----------------------------------------------------------- */
 
 struct lent {
     struct shape g;
@@ -740,51 +814,90 @@ struct lent {
     size_t buffer_words;
 };
 
-/* All calls on the same arguments: answers as given, and not a word changed.
- * The lent image is as long as the shape used for it, not as the one told. */
+static bool answers(uint32_t got, uint32_t want, struct pair first)
+{
+    return got == want && bad_is(want == 4 ? first : no_fault);
+}
+
+/* Check, report and read on the same arguments. */
+static bool lookups_answer(struct lent a, uint32_t *im, struct pair first,
+                           uint32_t check, uint32_t read)
+{
+    struct shape g = a.g;
+    uint32_t buffer[SECTOR];
+    bool good = true;
+
+    memset(buffer, 0xA5, sizeof buffer);
+    poison();
+    good &= answers(second_check(g.b, g.s, g.l, im, a.im_words, &bad.block,
+                                 &bad.rule), check, first);
+    poison();
+    good &= answers(second_report(g.b, g.s, g.l, im, a.im_words, &report[0],
+                                  &report[1], &report[2], &report[3],
+                                  &bad.block, &bad.rule), check, first);
+    good &= check == 0 || all_are(report, 4, 0);
+    poison();
+    good &= answers(second_read(g.b, g.s, g.l, im, a.im_words, a.number,
+                                buffer, a.buffer_words, &bad.block,
+                                &bad.rule), read, first);
+    return good && (read == 0 || all_are(buffer, SECTOR, POISON));
+}
+
+static bool write_answers(struct lent a, uint32_t *im, struct pair first,
+                          uint32_t write)
+{
+    uint32_t buffer[SECTOR] = {0};
+
+    poison();
+    return answers(second_write(a.g.b, a.g.s, a.g.l, im, a.im_words, a.number,
+                                buffer, a.buffer_words, &words, &erasures,
+                                &bad.block, &bad.rule), write, first) &&
+           (write == 0 || counts_are(0, 0));
+}
+
+static bool release_answers(struct lent a, uint32_t *im, struct pair first,
+                            uint32_t release)
+{
+    poison();
+    return answers(second_release(a.g.b, a.g.s, a.g.l, im, a.im_words,
+                                  a.number, &words, &erasures, &bad.block,
+                                  &bad.rule), release, first) &&
+           (release == 0 || counts_are(0, 0));
+}
+
+static bool format_answers(struct lent a, uint32_t *im, uint32_t format)
+{
+    poison();
+    return second_format(a.g.b, a.g.s, a.g.l, im, a.im_words, &words,
+                         &erasures) == format && counts_are(0, 0);
+}
+
+/* All calls on the same arguments: answers as given, with the first fault
+ * beside a 4, and after a refusal not a word changed.  The lent image is as
+ * long as the shape used for it, not as the one told. */
 static void expect(struct lent a, struct shape real, uint32_t format,
                    uint32_t check, uint32_t read, uint32_t write,
                    uint32_t release, int line)
 {
-    size_t bytes = len_of(real) * sizeof(uint32_t);
-    uint32_t *im = lend(real);
-    uint32_t buffer[SECTOR];
-    struct shape g = a.g;
-    bool good = true;
+    struct pair first = check == 4 ? first_fault(a.g, a.im) : no_fault;
+    uint32_t *im = copy_of(real, a.im);
+    bool good = lookups_answer(a, im, first, check, read);
 
-    memset(buffer, 0xA5, sizeof buffer);
-    memcpy(im, a.im, bytes);
-
-    good &= second_check(g.b, g.s, g.l, im, a.im_words) == check;
-    memset(report, 0xA5, sizeof report);
-    good &= second_report(g.b, g.s, g.l, im, a.im_words, &report[0],
-                          &report[1], &report[2], &report[3]) == check;
-    good &= check == 0 || all_are(report, 4, 0);
-    good &= second_read(g.b, g.s, g.l, im, a.im_words, a.number, buffer,
-                        a.buffer_words) == read;
-    good &= read == 0 || all_are(buffer, SECTOR, POISON);
-    good &= memcmp(im, a.im, bytes) == 0;
-
-    words = erasures = POISON;
-    good &= second_write(g.b, g.s, g.l, im, a.im_words, a.number, buffer,
-                         a.buffer_words, &words, &erasures) == write;
-    good &= write == 0 || (counts_are(0, 0) && memcmp(im, a.im, bytes) == 0);
-    memcpy(im, a.im, bytes);
-
-    words = erasures = POISON;
-    good &= second_release(g.b, g.s, g.l, im, a.im_words, a.number, &words,
-                           &erasures) == release;
-    good &= release == 0 || (counts_are(0, 0) && memcmp(im, a.im, bytes) == 0);
-    memcpy(im, a.im, bytes);
-
-    words = erasures = POISON;
-    good &= second_format(g.b, g.s, g.l, im, a.im_words, &words,
-                          &erasures) == format;
-    good &= counts_are(0, 0);
-    good &= format == 0 || memcmp(im, a.im, bytes) == 0;
-
-    check_at(good, "refusals", line);
+    good &= same(real, im, a.im);
+    good &= write_answers(a, im, first, write);
+    good &= write == 0 || same(real, im, a.im);
     free(im);
+
+    im = copy_of(real, a.im);
+    good &= release_answers(a, im, first, release);
+    good &= release == 0 || same(real, im, a.im);
+    free(im);
+
+    im = copy_of(real, a.im);
+    good &= format_answers(a, im, format);
+    good &= format == 0 || same(real, im, a.im);
+    free(im);
+    check_at(good, "refusals", line);
 }
 
 #define EXPECT(a, real, f, c, r, w, d) expect(a, real, f, c, r, w, d, __LINE__)
@@ -825,19 +938,38 @@ static void test_refusal_1(void)
         b.im_words = lengths[i];
         EXPECT(b, g, 1, 1, 1, 1, 1);
     }
-    /* Another geometry of the same length is a matter for the rules only. */
-    b = a;
-    b.g = (struct shape){16, 8, 90};
-    EXPECT(b, g, 0, 4, 4, 4, 4);
-    /* Nothing is looked at before the length is known to be right. */
-    words = erasures = POISON;
-    CHECK(second_write(8, 16, 90, NULL, 0, 0, NULL, 0, &words, &erasures) == 1);
-    CHECK(counts_are(0, 0));
-    CHECK(second_format(8, 16, 90, NULL, 0, &words, &erasures) == 1);
-    CHECK(second_check(8, 16, 90, NULL, 0) == 1);
-    CHECK(second_read(8, 16, 90, NULL, 0, 0, NULL, 0) == 1);
-    CHECK(second_release(8, 16, 90, NULL, 0, 0, &words, &erasures) == 1);
     free(a.im);
+}
+
+/* Another geometry of the same length is a matter for the rules only. */
+static void test_other_geometry(void)
+{
+    struct shape g = {8, 16, 90}, other = {16, 8, 90};
+    struct lent a = {other, fresh(g), len_of(g), 5, 128};
+
+    CHECK(do_fill(g, a.im, 5, 7) == 0);
+    EXPECT(a, g, 0, 4, 4, 4, 4);
+    /* Half a block on there is no erase count, but ones. */
+    CHECK(do_check(other, a.im) == 4 && bad_is((struct pair){1, 1}));
+    free(a.im);
+}
+
+/* Nothing is looked at before the length is known to be right. */
+static void test_refusal_1_of_nothing(void)
+{
+    struct lent a = {{8, 16, 90}, NULL, 0, 0, 0};
+
+    CHECK(lookups_answer(a, NULL, no_fault, 1, 1));
+    CHECK(release_answers(a, NULL, no_fault, 1));
+    CHECK(format_answers(a, NULL, 1));
+    poison();
+    CHECK(second_write(8, 16, 90, NULL, 0, 0, NULL, 0, &words, &erasures,
+                       &bad.block, &bad.rule) == 1);
+    CHECK(counts_are(0, 0) && bad_is(no_fault));
+    poison();
+    CHECK(second_read(8, 16, 90, NULL, 0, 0, NULL, 0, &bad.block,
+                      &bad.rule) == 1);
+    CHECK(bad_is(no_fault));
 }
 
 static void test_refusals_in_order(void)
@@ -866,19 +998,29 @@ static void test_refusals_in_order(void)
     EXPECT(b, g, 0, 0, 3, 3, 3);
     b.number = 0xFFFFFFFF;
     EXPECT(b, g, 0, 0, 3, 3, 3);
+    free(a.im);
+}
 
-    a.im[0] = 1000001;
-    EXPECT(a, g, 0, 4, 4, 4, 4);
-    b = a;
-    b.number = 6; /* not mapped */
+/* What is asked before 4 is given although the image has a fault. */
+static void expect_around_4(struct lent a)
+{
+    struct shape g = a.g;
+    struct lent b = a;
+
     EXPECT(b, g, 0, 4, 4, 4, 4);
-    b.number = 90;
+    b.number = g.l - 1; /* not mapped */
+    EXPECT(b, g, 0, 4, 4, 4, 4);
+    b.number = g.l;
     EXPECT(b, g, 0, 4, 3, 3, 3);
     b.buffer_words = 127;
     EXPECT(b, g, 0, 4, 2, 2, 3);
-    b.g.l = 105;
+    b.number = a.number;
+    EXPECT(b, g, 0, 4, 2, 2, 4);
+    b.im_words--;
     EXPECT(b, g, 1, 1, 1, 1, 1);
-    free(a.im);
+    b = a;
+    b.g.l = (g.b - 1) * d_of(g);
+    EXPECT(b, g, 1, 1, 1, 1, 1);
 }
 
 static void test_refusal_6_in_order(void)
@@ -898,20 +1040,25 @@ static void test_refusal_6_in_order(void)
     EXPECT(b, g, 0, 0, 2, 2, 3);
     a.im[384] = 1000001;
     EXPECT(a, g, 0, 4, 4, 4, 4);
+    CHECK(do_fill(g, a.im, 0, 3) == 4 && bad_is((struct pair){1, 1}));
     free(a.im);
 }
 
-/* ---- Each rule alone, with the sound image beside it --------------------- */
+/* ---- Each rule alone, with the sound image beside it -------------------- */
 
 /* Rule 0 stands for none. */
-static void verdict(struct shape g, uint32_t *im, uint32_t rule, int line)
+static void verdict(struct shape g, uint32_t *im, struct pair want, int line)
 {
-    check_at(broken(g, im) == (rule == 0 ? 0u : 1u << rule), "one rule", line);
-    check_at(do_check(g, im) == (rule == 0 ? 0u : 4u), "check", line);
-    check_at(do_report(g, im) == (rule == 0 ? 0u : 4u), "report", line);
+    uint32_t rules = want.rule == 0 ? 0 : UINT32_C(1) << want.rule;
+    uint32_t answer = want.rule == 0 ? 0 : 4;
+
+    check_at(broken(g, im) == rules, "one rule", line);
+    check_at(do_check(g, im) == answer && bad_is(want), "check", line);
+    check_at(do_report(g, im) == answer && bad_is(want), "report", line);
 }
 
-#define VERDICT(rule) verdict(g, im, rule, __LINE__)
+#define VERDICT(block, rule) \
+    verdict(g, im, (struct pair){block, rule}, __LINE__)
 
 static void test_r1(struct shape g)
 {
@@ -919,14 +1066,14 @@ static void test_r1(struct shape g)
 
     for (uint32_t b = 0; b < g.b; b++) {
         head_of(g, im, b)[0] = 1000000;
-        VERDICT(0);
+        VERDICT(0, 0);
         head_of(g, im, b)[0] = 1000001;
-        VERDICT(1);
+        VERDICT(b, 1);
         head_of(g, im, b)[0] = ONES;
-        VERDICT(1);
+        VERDICT(b, 1);
         head_of(g, im, b)[0] = 1000000;
     }
-    VERDICT(0);
+    VERDICT(0, 0);
     free(im);
 }
 
@@ -936,19 +1083,19 @@ static void test_r2(struct shape g)
 
     for (uint32_t i = 0; i < 32 * k_of(g); i++) {
         *map_of(g, im, 1, i) ^= UINT32_C(1) << i % 32;
-        VERDICT(2);
+        VERDICT(1, 2);
         if (i < d_of(g)) {
             *entry_of(g, im, 1, i) = 3;
             if (d_of(g) > 1)
-                VERDICT(0);
+                VERDICT(0, 0);
             *map_of(g, im, 1, i) ^= UINT32_C(1) << i % 32;
             if (d_of(g) > 1)
-                VERDICT(2);
+                VERDICT(1, 2);
             *entry_of(g, im, 1, i) = ONES;
         } else {
             *map_of(g, im, 1, i) ^= UINT32_C(1) << i % 32;
         }
-        VERDICT(0);
+        VERDICT(0, 0);
     }
     free(im);
 }
@@ -962,15 +1109,15 @@ static void test_r3(struct shape g)
 
         for (uint32_t i = 0; i < 128; i += thorough ? 1 : 127) {
             data_of(g, im, 1, s)[i] ^= UINT32_C(1) << i % 32;
-            VERDICT(3);
+            VERDICT(1, 3);
             data_of(g, im, 1, s)[i] = ONES;
         }
-        VERDICT(0);
+        VERDICT(0, 0);
     }
     /* The same in a slot that is taken: nothing is asked of its contents. */
     seat(g, im, 1, 0, 0);
     data_of(g, im, 1, 0)[127] = 0;
-    VERDICT(0);
+    VERDICT(0, 0);
     free(im);
 }
 
@@ -982,16 +1129,16 @@ static void test_r4(struct shape g)
         seat(g, im, 1, s, LIVE + g.l - 1);
         if (s + 1 == d_of(g))
             head_of(g, im, 1)[1] = 0, head_of(g, im, 1)[2] = 0xFFFF;
-        VERDICT(0);
+        VERDICT(0, 0);
         *entry_of(g, im, 1, s) = LIVE + g.l;
-        VERDICT(4);
+        VERDICT(1, 4);
         *entry_of(g, im, 1, s) = 0xDFFFFFFF;
-        VERDICT(4);
+        VERDICT(1, 4);
         /* The same numbers in entries that are dead. */
         *entry_of(g, im, 1, s) = 0x80000000 + g.l;
-        VERDICT(0);
+        VERDICT(0, 0);
         *entry_of(g, im, 1, s) = 0xE0000000 + g.l;
-        VERDICT(0);
+        VERDICT(0, 0);
     }
     free(im);
 }
@@ -1007,16 +1154,16 @@ static void test_r5(struct shape g)
 
             seat(g, im, 0, 0, LIVE + n);
             seat(g, im, b, last, 0x80000000 + n);
-            VERDICT(0);
+            VERDICT(0, 0);
             *e = LIVE + n;
-            VERDICT(5);
+            VERDICT(b, 5);
             *e = 0xE0000000 + n;
-            VERDICT(0);
+            VERDICT(0, 0);
             *e = LIVE + (n == 0 ? 1 : n - 1);
-            VERDICT(0);
+            VERDICT(0, 0);
             *e = LIVE + n;
             *entry_of(g, im, 0, 0) = 0x40000000 + n;
-            VERDICT(0);
+            VERDICT(0, 0);
             *entry_of(g, im, 0, 0) = ONES;
             *e = ONES;
             *map_of(g, im, 0, 0) = *map_of(g, im, b, last) = ONES;
@@ -1031,67 +1178,78 @@ static void test_r6(struct shape g)
     uint32_t *im = fresh(g);
 
     for (uint32_t b = 0; b < g.b; b++) {
-        VERDICT(0);
+        VERDICT(0, 0);
         seat(g, im, b, d_of(g) - 1, 0x00000001);
     }
-    VERDICT(6);
+    VERDICT(g.b, 6);
     for (uint32_t b = 0; b < g.b; b++) {
         *entry_of(g, im, b, d_of(g) - 1) = ONES;
         *map_of(g, im, b, d_of(g) - 1) = ONES;
-        VERDICT(0);
+        VERDICT(0, 0);
         seat(g, im, b, d_of(g) - 1, 0x00000001);
     }
     free(im);
 }
 
-static void test_r7(struct shape g)
+static void test_r7_with_free(struct shape g)
+{
+    uint32_t *im = fresh(g);
+    uint32_t *h = head_of(g, im, 0);
+
+    for (uint32_t w = 1; w <= 2; w++) { /* blank */
+        h[w] = 0x7FFFFFFF;
+        VERDICT(0, 7);
+        h[w] = ONES;
+        VERDICT(0, 0);
+    }
+    for (uint32_t s = 0; s + 1 < d_of(g); s++) /* open, 3 and 5 live */
+        seat(g, im, 0, s, s == 0 ? LIVE + 3 : s == 1 ? LIVE + 5 : s);
+    VERDICT(0, 0);
+    h[1] = 3;
+    VERDICT(0, 7);
+    h[1] = ONES;
+    h[2] = 5;
+    VERDICT(0, 7);
+    h[1] = 3; /* what would be right in the full block */
+    VERDICT(0, 7);
+    free(im);
+}
+
+static void test_r7_full(struct shape g)
 {
     uint32_t *im = fresh(g);
     uint32_t *h = head_of(g, im, 0);
     uint32_t d = d_of(g);
 
-    for (uint32_t w = 1; w <= 2; w++) { /* blank */
-        h[w] = 0x7FFFFFFF;
-        VERDICT(7);
-        h[w] = ONES;
-        VERDICT(0);
-    }
-    for (uint32_t s = 0; s + 1 < d; s++) /* open, numbers 3 and 5 live */
-        seat(g, im, 0, s, s == 0 ? LIVE + 3 : s == 1 ? LIVE + 5 : s);
-    VERDICT(0);
+    for (uint32_t s = 0; s < d; s++) /* with dead numbers outside */
+        seat(g, im, 0, s, s == 0 ? LIVE + 3 : s == 1 ? LIVE + 5 : 2);
     h[1] = 3;
-    VERDICT(7);
-    h[1] = ONES;
     h[2] = 5;
-    VERDICT(7);
-    h[1] = 3; /* what would be right in the full block */
-    VERDICT(7);
-    seat(g, im, 0, d - 1, 0x00000002); /* full, with dead numbers outside */
-    VERDICT(0);
+    VERDICT(0, 0);
     h[1] = 4;
-    VERDICT(7);
+    VERDICT(0, 7);
     h[1] = ONES;
-    VERDICT(7);
+    VERDICT(0, 7);
     h[1] = 2;
-    VERDICT(0);
+    VERDICT(0, 0);
     h[1] = 0;
-    VERDICT(0);
+    VERDICT(0, 0);
     h[2] = 4;
-    VERDICT(7);
+    VERDICT(0, 7);
     h[2] = 6;
-    VERDICT(0);
+    VERDICT(0, 0);
     h[2] = ONES;
-    VERDICT(0);
+    VERDICT(0, 0);
     *entry_of(g, im, 0, d - 1) = LIVE + 6; /* the last slot counts too */
     h[2] = 5;
-    VERDICT(7);
+    VERDICT(0, 7);
     h[2] = 6;
-    VERDICT(0);
+    VERDICT(0, 0);
     *entry_of(g, im, 0, 0) = *entry_of(g, im, 0, 1) = 3;
     *entry_of(g, im, 0, d - 1) = 6;
     h[1] = ONES; /* no live number: any two words will do */
     h[2] = 0;
-    VERDICT(0);
+    VERDICT(0, 0);
     free(im);
 }
 
@@ -1108,7 +1266,8 @@ static void test_rules(void)
         test_r4(shapes[i]);
         test_r5(shapes[i]);
         test_r6(shapes[i]);
-        test_r7(shapes[i]);
+        test_r7_with_free(shapes[i]);
+        test_r7_full(shapes[i]);
     }
     test_r1((struct shape){3, 2, 1});
     test_r2((struct shape){3, 2, 1});
@@ -1118,7 +1277,261 @@ static void test_rules(void)
     test_r6((struct shape){2, 3, 1});
 }
 
-/* ---- Many calls against an array ----------------------------------------- */
+/* ---- The first of several faults ---------------------------------------- */
+
+/* Block 1 is blank.  In every other one the first four slots and the last four
+ * are live, dead, dead and free, and those between are dead: room to break
+ * each rule of a block, low or high in it, without a touch on the others. */
+static uint32_t *roomy(struct shape g)
+{
+    uint32_t *im = fresh(g);
+    uint32_t high = d_of(g) - 4;
+
+    for (uint32_t b = 0; b < g.b; b++)
+        for (uint32_t s = 0; s < d_of(g) && b != 1; s++) {
+            if (s == 0 || s == high)
+                seat(g, im, b, s, LIVE + 2 * b + (s == high));
+            else if (s != 3 && s != high + 3)
+                seat(g, im, b, s, 0x40000000 + 2 * b);
+        }
+    CHECK(broken(g, im) == 0 && do_check(g, im) == 0);
+    return im;
+}
+
+static void break_rule(struct shape g, uint32_t *im, struct pair what,
+                       bool high)
+{
+    uint32_t b = what.block, s = high ? d_of(g) - 4 : 0;
+    uint32_t taken = UINT32_C(1) << (s + 1) % 32;
+    uint32_t not_taken = UINT32_C(1) << (s + 3) % 32;
+
+    switch (what.rule) {
+    case 1: head_of(g, im, b)[0] = high ? ONES : 1000001; break;
+    case 2:
+        if (high)
+            *map_of(g, im, b, s + 3) &= ~not_taken;
+        else
+            *map_of(g, im, b, s + 1) |= taken;
+        break;
+    case 3: data_of(g, im, b, s + 3)[high ? 127 : 0] = 0; break;
+    case 4: *entry_of(g, im, b, s + 1) = high ? 0xDFFFFFFF : LIVE + g.l; break;
+    /* Again the first number of the image, or of the block itself. */
+    case 5: *entry_of(g, im, b, s + 2) = LIVE + (high ? 0 : 2 * b); break;
+    case 6: seat(g, im, 1, s, 0); break;
+    default: head_of(g, im, b)[high ? 2 : 1] = 0; break;
+    }
+}
+
+/* The rules of the first, a middle and the last block of a roomy image, in the
+ * order in which they are gone through: of a set of them the one with the
+ * lowest number here is named. */
+#define BREAKS (3 * BLOCK_RULES)
+
+static struct pair break_at(struct shape g, size_t i)
+{
+    uint32_t blocks[3] = {0, g.b / 2, g.b - 1};
+
+    return (struct pair){blocks[i / BLOCK_RULES],
+                         block_rules[i % BLOCK_RULES].rule};
+}
+
+/* Three breaks in ascending order, fewer when some are equal: done together,
+ * without R6 and then with it.  Bit i of high says where the i-th is done. */
+static void expect_first(struct shape g, const uint32_t *sound,
+                         const size_t at[3], uint32_t high, int line)
+{
+    struct pair want = break_at(g, at[0]);
+    struct lent a = {g, copy_of(g, sound), len_of(g), 0, 128};
+    uint32_t rules = 0;
+
+    for (uint32_t i = 0; i < 3; i++) {
+        struct pair what = break_at(g, at[i]);
+
+        if (i > 0 && at[i] == at[i - 1])
+            continue;
+        break_rule(g, a.im, what, bit(high, i));
+        rules |= UINT32_C(1) << what.rule;
+    }
+    for (uint32_t round = 0; round < 2; round++) {
+        check_at(broken(g, a.im) == rules, "these rules", line);
+        check_at(do_check(g, a.im) == 4 && bad_is(want), "first", line);
+        expect(a, g, 0, 4, 4, 4, 4, line);
+        break_rule(g, a.im, (struct pair){g.b, 6}, bit(high, 0));
+        rules |= UINT32_C(1) << 6;
+    }
+    free(a.im);
+}
+
+#define EXPECT_FIRST(i, j, k, high) \
+    expect_first(g, sound, (const size_t[]){i, j, k}, high, __LINE__)
+
+static void test_one_to_three_breaks(struct shape g)
+{
+    uint32_t *sound = roomy(g);
+
+    for (size_t i = 0; i < BREAKS; i++) {
+        EXPECT_FIRST(i, i, i, 0);
+        EXPECT_FIRST(i, i, i, 1);
+        for (size_t j = i + 1; j < BREAKS; j++) {
+            for (uint32_t high = 0; high < 4; high++)
+                EXPECT_FIRST(i, j, j, high);
+            for (size_t k = j + 1; k < BREAKS; k++)
+                EXPECT_FIRST(i, j, k, below(8));
+        }
+    }
+    free(sound);
+}
+
+/* Each break by itself, with arguments that are refused before it. */
+static void test_breaks_behind_refusals(struct shape g)
+{
+    uint32_t *sound = roomy(g);
+
+    for (size_t i = 0; i <= BREAKS; i++) {
+        struct lent a = {g, copy_of(g, sound), len_of(g), 0, 128};
+        struct pair what = i < BREAKS ? break_at(g, i) : (struct pair){g.b, 6};
+
+        break_rule(g, a.im, what, i % 2 == 0);
+        CHECK(do_check(g, a.im) == 4 && bad_is(what));
+        expect_around_4(a);
+        free(a.im);
+    }
+    free(sound);
+}
+
+#define NAMED(block, rule) \
+    CHECK(do_check(g, im) == 4 && bad_is((struct pair){block, rule}))
+
+/* One number live in two slots, wherever the two are: block and slot go
+ * through the image as one number, p before q. */
+static void test_r5_charges_the_later(void)
+{
+    struct shape g = {5, 4, 9};
+    uint32_t d = d_of(g);
+
+    for (uint32_t q = 0; q < g.b * d; q++)
+        for (uint32_t p = 0; p < q; p++) {
+            uint32_t *im = fresh(g);
+
+            /* The one stored first need not be the earlier. */
+            seat(g, im, q / d, q % d, LIVE + 8);
+            VERDICT(0, 0);
+            seat(g, im, p / d, p % d, LIVE + 8);
+            VERDICT(q / d, 5);
+            free(im);
+        }
+}
+
+static void test_r5_among_others(void)
+{
+    struct shape g = {6, 4, 9};
+    uint32_t *im = fresh(g);
+
+    seat(g, im, 1, 1, LIVE + 4);
+    seat(g, im, 3, 0, LIVE + 4);
+    seat(g, im, 4, 2, LIVE + 4); /* three slots: the second is the first bad */
+    VERDICT(3, 5);
+    *entry_of(g, im, 3, 0) = 0x80000004;
+    VERDICT(4, 5);
+    *entry_of(g, im, 1, 1) = LIVE + 9;
+    VERDICT(1, 4);
+    *entry_of(g, im, 4, 2) = LIVE + 9; /* twice there, but not live */
+    VERDICT(1, 4);
+    *entry_of(g, im, 1, 1) = *entry_of(g, im, 4, 2) = LIVE + 4;
+
+    head_of(g, im, 5)[0] = ONES; /* behind the later block */
+    NAMED(4, 5);
+    head_of(g, im, 4)[2] = 7; /* in it, but after R5 */
+    NAMED(4, 5);
+    *map_of(g, im, 4, 0) = 0; /* in it, before R5 */
+    NAMED(4, 2);
+    head_of(g, im, 3)[1] = 7; /* between the two */
+    NAMED(3, 7);
+    head_of(g, im, 1)[2] = 7; /* in the block of the earlier */
+    NAMED(1, 7);
+    data_of(g, im, 0, 2)[5] = 0;
+    NAMED(0, 3);
+    free(im);
+}
+
+/* A slot is free or live by its entry alone, whatever the map says of it. */
+static void test_map_hides_nothing(void)
+{
+    struct shape g = {4, 5, 9};
+    uint32_t *im = fresh(g);
+
+    seat(g, im, 0, 1, LIVE + 3);
+    *entry_of(g, im, 2, 2) = LIVE + 3;
+    CHECK(broken(g, im) == (1u << 2 | 1u << 5));
+    NAMED(2, 2);
+    *map_of(g, im, 2, 2) = ~UINT32_C(4);
+    VERDICT(2, 5);
+    *entry_of(g, im, 2, 2) = ONES;
+    data_of(g, im, 2, 2)[9] = 0;
+    CHECK(broken(g, im) == (1u << 2 | 1u << 3));
+    NAMED(2, 2);
+    *map_of(g, im, 2, 2) = ONES;
+    VERDICT(2, 3);
+    free(im);
+}
+
+/* R7 as full blocks break it, behind and before the other rules. */
+static void test_r7_of_full_among_others(void)
+{
+    struct shape g = {4, 5, 9};
+    uint32_t *im = fresh(g);
+    uint32_t *h = head_of(g, im, 2);
+
+    for (uint32_t s = 0; s < 4; s++)
+        seat(g, im, 2, s, LIVE + 2 + s);
+    h[1] = 3;
+    h[2] = 5;
+    VERDICT(2, 7);
+    head_of(g, im, 3)[0] = ONES;
+    NAMED(2, 7);
+    *entry_of(g, im, 2, 3) = LIVE + 4;
+    NAMED(2, 5);
+    *entry_of(g, im, 2, 1) = LIVE + 9;
+    NAMED(2, 4);
+    *map_of(g, im, 2, 0) ^= 0x80000000;
+    NAMED(2, 2);
+    h[0] = 1000001;
+    NAMED(2, 1);
+    head_of(g, im, 1)[1] = 0;
+    NAMED(1, 7);
+    free(im);
+}
+
+/* Every block full or open; the pair that R6 gets is that of no block. */
+static void test_r6_behind_all(struct shape g)
+{
+    uint32_t *im = fresh(g);
+
+    for (uint32_t b = 0; b < g.b; b++)
+        seat(g, im, b, 0, 0);
+    NAMED(g.b, 6);
+    for (uint32_t b = g.b; b-- > 0;) {
+        *entry_of(g, im, b, 0) = LIVE + g.l;
+        NAMED(b, 4);
+    }
+    free(im);
+}
+
+static void test_first_faults(void)
+{
+    test_one_to_three_breaks((struct shape){5, 9, 20});
+    test_breaks_behind_refusals((struct shape){5, 9, 20});
+    test_breaks_behind_refusals((struct shape){4, 41, 100});
+    test_breaks_behind_refusals((struct shape){64, 64, 3968});
+    test_r5_charges_the_later();
+    test_r5_among_others();
+    test_map_hides_nothing();
+    test_r7_of_full_among_others();
+    test_r6_behind_all((struct shape){2, 3, 1});
+    test_r6_behind_all((struct shape){64, 3, 100});
+}
+
+/* ---- Many calls against an array ---------------------------------------- */
 
 static uint32_t word_for(uint32_t number, uint32_t stamp, uint32_t i)
 {
@@ -1139,8 +1552,7 @@ static void sector_for(uint32_t number, uint32_t stamp, uint32_t *buffer)
 }
 
 /* Stamp 0: not mapped. */
-static bool reads_as(struct shape g, const uint32_t *im, uint32_t n,
-                     uint32_t stamp)
+static bool reads_as(struct shape g, uint32_t *im, uint32_t n, uint32_t stamp)
 {
     uint32_t got[SECTOR], want[SECTOR];
     uint32_t answer;
@@ -1227,7 +1639,7 @@ static void test_many_shapes(void)
     test_many((struct shape){64, 64, 2000}, 6000, 100);
 }
 
-/* ---- Images that no call made -------------------------------------------- */
+/* ---- Images that no call made ------------------------------------------- */
 
 static uint32_t dead_entry(struct shape g)
 {
@@ -1300,14 +1712,15 @@ static void spoil(struct shape g, uint32_t *im)
 {
     uint32_t b = below(g.b), s = below(d_of(g));
     uint32_t *h = head_of(g, im, b);
+    uint32_t any = UINT32_C(1) << below(32);
 
     switch (below(8)) {
     case 0: h[below(3)] = below(2) ? rnd() : below(g.l + 1); break;
     case 1: h[0] = 999999 + below(3); break;
-    case 2: *map_of(g, im, b, s) ^= UINT32_C(1) << below(32); break;
+    case 2: *map_of(g, im, b, s) ^= any; break;
     case 3: *entry_of(g, im, b, s) = LIVE + below(g.l + 1); break;
-    case 4: *entry_of(g, im, b, s) ^= UINT32_C(1) << below(32); break;
-    case 5: data_of(g, im, b, s)[below(128)] ^= UINT32_C(1) << below(32); break;
+    case 4: *entry_of(g, im, b, s) ^= any; break;
+    case 5: data_of(g, im, b, s)[below(128)] ^= any; break;
     case 6: seat(g, im, b, s, dead_entry(g)); break;
     default: h[3 + k_of(g) + d_of(g) + below(20)] = rnd(); break;
     }
@@ -1348,6 +1761,67 @@ static void test_drawn_images(void)
     }
 }
 
+/* ---- Damage ------------------------------------------------------------- */
+
+/* Any word of a block, more often than their number one that rules read. */
+static void scribble(struct shape g, uint32_t *im)
+{
+    uint32_t *h = head_of(g, im, below(g.b));
+    uint32_t *w = h + below(below(4) ? 3 + k_of(g) + d_of(g) : 128 * g.s);
+
+    switch (below(4)) {
+    case 0: *w = rnd(); break;
+    case 1: *w ^= UINT32_C(1) << below(32); break;
+    case 2: *w = LIVE + below(g.l + 1); break;
+    default: *w = below(2) ? ONES : 0; break;
+    }
+}
+
+static void damage(struct shape g, uint32_t *im)
+{
+    for (uint32_t left = 1 + below(4); left > 0; left--) {
+        if (below(2))
+            spoil(g, im);
+        else
+            scribble(g, im);
+    }
+}
+
+/* Each rule comes up often enough, also as the first of several. */
+static void test_damaged_images(void)
+{
+    static const struct shape shapes[] = {
+        {2, 3, 1}, {3, 2, 1}, {3, 5, 7}, {4, 4, 8}, {4, 5, 6}, {3, 34, 60},
+        {6, 3, 9}, {9, 3, 12},
+    };
+    uint32_t alone[8] = {0}, before_others[8] = {0};
+
+    for (uint32_t round = 0; round < 1600; round++) {
+        struct shape g = shapes[round % 8];
+        uint32_t *drawn = lend(g);
+
+        draw_image(g, drawn);
+        for (uint32_t i = 0; i < 10; i++) {
+            struct lent a = {g, copy_of(g, drawn), len_of(g), 0, 128};
+            struct pair first;
+
+            damage(g, a.im);
+            first = first_fault(g, a.im);
+            if (broken(g, a.im) == UINT32_C(1) << first.rule)
+                alone[first.rule]++;
+            else
+                before_others[first.rule]++;
+            CHECK(do_check(g, a.im) == (first.rule == 0 ? 0u : 4u));
+            if (first.rule != 0 && i == 0)
+                EXPECT(a, g, 0, 4, 4, 4, 4);
+            free(a.im);
+        }
+        free(drawn);
+    }
+    for (uint32_t rule = 1; rule <= 7; rule++)
+        CHECK(alone[rule] > 100 && (rule == 6 || before_others[rule] > 10));
+}
+
 int main(void)
 {
     test_p1();
@@ -1358,14 +1832,19 @@ int main(void)
     test_106_writes();
     test_ceiling();
     test_victim();
+    test_victim_by_number();
     test_choice_of_slot();
     test_unused_words();
     test_refusal_1();
+    test_other_geometry();
+    test_refusal_1_of_nothing();
     test_refusals_in_order();
     test_refusal_6_in_order();
     test_rules();
+    test_first_faults();
     test_many_shapes();
     test_drawn_images();
+    test_damaged_images();
     printf("%lu passed, %lu failed\n", passed, failed);
     return failed == 0 ? 0 : 1;
 }

@@ -35,9 +35,9 @@ static void same(const uint32_t *ours, const uint32_t *theirs)
 /* One write by one of the two: a first placing takes 131 words, a replacement 2 more, and 2 more if the block fills. */
 static void write_once(const struct layer *layer, uint32_t *image, const uint32_t *buffer)
 {
-    uint32_t words = 77, erasures = 77, placing = 131 + (write_number > 1 ? 2 : 0) + (write_number % SLOTS == 0 ? 2 : 0);
+    uint32_t words = 77, erasures = 77, bad_block, bad_rule, placing = 131 + (write_number > 1 ? 2 : 0) + (write_number % SLOTS == 0 ? 2 : 0);
     bool reclaims = write_number > BEFORE;
-    expect(layer->write(BLOCKS, SECTORS, LOGICAL, image, WORDS, 0, buffer, SECTOR, &words, &erasures) == 0, "refused");
+    expect(layer->write(BLOCKS, SECTORS, LOGICAL, image, WORDS, 0, buffer, SECTOR, &words, &erasures, &bad_block, &bad_rule) == 0, "refused");
     expect(words == (reclaims ? 134 : placing), "another number of words");
     expect(erasures == (reclaims ? 1 : 0), "another number of erasures");
 }

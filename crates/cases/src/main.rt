@@ -1,6 +1,7 @@
-// Runs cases of docs/FORMAT.md (Figures, The script program, Rules of a well-formed image) over the calls at (8,16,90) and prints what they
-// answer, a line each: an image that breaks one rule alone and the sound one beside it, the session of four records, sector 0 written 106
-// times, and the victim's count on either side of the ceiling. The file stdout is what FORMAT.md says of each.
+// Runs cases of docs/FORMAT.md (Figures, The script program, Rules of a well-formed image, The first failing pair) over the calls at (8,16,90)
+// and prints what they answer, a line each: an image that breaks one rule alone and the sound one beside it, images with two faults, the
+// session of four records, sector 0 written 106 times, and the victim's count on either side of the ceiling. The file stdout is what FORMAT.md
+// says of each.
 use geometry::Geometry;
 use libc::STDOUT_FILENO;
 
@@ -78,13 +79,20 @@ fn fresh(image: &mut [u32]) {
     shellwaltz::format(image, geo());
 }
 
-// A case's line: its name, the rule's number, and what check answers of the image.
-fn tell(image: &[u32], name: &[u8], rule: u32) {
+// What check answers of the image: the number, and the block and the rule that it names.
+fn verdict(image: &[u32]) {
     let answer = shellwaltz::check(image, geo());
+    and(answers::number(answer));
+    and(answers::bad_block(answer));
+    and(answers::bad_rule(answer));
+    end_line();
+}
+
+// A case's line: its name, the rule's number, and the verdict.
+fn tell(image: &[u32], name: &[u8], rule: u32) {
     text(name);
     show(rule);
-    and(shellwaltz::number(answer));
-    end_line();
+    verdict(image);
 }
 
 // Two words of block b that break the rule.
@@ -185,6 +193,100 @@ fn rule7_full(image: &mut [u32]) {
     sound(image, 7, 0, 0xFFFF8000, 1, 5);
 }
 
+// A fault of each rule, 1 to 7, in block b, as one word of the block and the map bits that stay. Each has a place of its own, so that two can
+// be in one block: the erase count; the map bit of slot 1; the last word of slot 14; the entry of slot 4; that of slot 3, live for 5; that of
+// slot 0; word 1.
+fn fault_word(rule: u32) -> usize {
+    match rule {
+        1 => 0,
+        2 => 5,
+        3 => 2047,
+        4 => 8,
+        5 => 7,
+        6 => 4,
+        _ => 1,
+    }
+}
+
+fn fault_value(rule: u32) -> u32 {
+    match rule {
+        1 => 1000001,
+        2 => 0xFFFFFFFF,
+        3 => 0xFFFFFFFE,
+        4 => 0xC000005A,
+        5 => 0xC0000005,
+        _ => 5,
+    }
+}
+
+fn fault_map(rule: u32) -> u32 {
+    match rule {
+        2 => 0xFFFFFFFD,
+        4 => 0xFFFFFFEF,
+        5 => 0xFFFFFFF7,
+        6 => 0xFFFFFFFE,
+        _ => 0xFFFFFFFF,
+    }
+}
+
+// Plants a fault; none where the rule is 0.
+fn plant(image: &mut [u32], rule: u32, b: u32) {
+    if rule != 0 {
+        let kept = get(image, b as usize, 3);
+        put(
+            image,
+            b as usize,
+            kept & fault_map(rule),
+            fault_word(rule),
+            fault_value(rule),
+        );
+    }
+}
+
+// A sound image in which all blocks but the last are open, and 5 is live in slot 2 of block 0: so a fault of R5 is one more slot, and one of R6
+// is one slot of block 7.
+fn before_faults(image: &mut [u32]) {
+    fresh(image);
+    set_all(image, 3, 0xFFFFFFFE);
+    set_all(image, 4, 0x00000005);
+    put(image, 0, 0xFFFFFFFA, 6, 0xC0000005);
+    put(image, 7, 0xFFFFFFFF, 4, 0xFFFFFFFF);
+}
+
+// A case is a number of four digits: the rule and the block of one fault, and those of another, or two zeros. Its line has the number and the
+// verdict.
+fn two_faults(image: &mut [u32], case: u32) {
+    before_faults(image);
+    plant(image, case / 1000 % 10, case / 100 % 10);
+    plant(image, case / 10 % 10, case % 10);
+    show(case);
+    verdict(image);
+}
+
+fn each_case(image: &mut [u32], cases: &[u32]) {
+    let n = cases.len();
+    for i in 0..n {
+        two_faults(image, cases[i]);
+    }
+}
+
+// The first failing pair: each rule alone; with a fault in an earlier block, which is named whatever its rule, and in a later one, which is not;
+// with one in the same block that comes before it in the order, and after it; and R5 with the two slots in two blocks, in one, and with more.
+fn name_faults(image: &mut [u32]) {
+    let alone = [1300, 2300, 3300, 4300, 5300, 6700, 7300];
+    each_case(image, &alone);
+    let earlier_block = [1372, 2372, 3372, 4372, 5372, 6777, 7352];
+    each_case(image, &earlier_block);
+    let later_block = [1314, 2314, 3314, 4314, 5314, 7314];
+    each_case(image, &later_block);
+    let earlier_rule = [2313, 3323, 4333, 5343, 6713, 7353];
+    each_case(image, &earlier_rule);
+    let later_rule = [1373, 2373, 3373, 4373, 5373, 7367];
+    each_case(image, &later_rule);
+    let live_twice = [5500, 5000, 5574, 5552];
+    each_case(image, &live_twice);
+}
+
 // Writes sector n, every word of it `fill`.
 fn write(image: &mut [u32], n: u32, fill: u32) -> shellwaltz::Outcome {
     let buffer = [fill; 128];
@@ -205,14 +307,7 @@ fn record(letter: &[u8], n: u32, answer: u32, words: u32, erasures: u32, first: 
 // That of a call which changes the image.
 fn outcome_line(letter: &[u8], n: u32, r: shellwaltz::Outcome) {
     let answer = r.answer;
-    record(
-        letter,
-        n,
-        shellwaltz::number(answer),
-        r.words,
-        r.erasures,
-        0,
-    );
+    record(letter, n, answers::number(answer), r.words, r.erasures, 0);
 }
 
 fn write_line(image: &mut [u32], n: u32, fill: u32) {
@@ -220,7 +315,7 @@ fn write_line(image: &mut [u32], n: u32, fill: u32) {
 }
 
 fn read_line(image: &[u32], n: u32, buffer: &mut [u32]) {
-    let answer = shellwaltz::number(shellwaltz::read(image, geo(), n, buffer));
+    let answer = answers::number(shellwaltz::read(image, geo(), n, buffer));
     let mut first = 0;
     if answer == 0 {
         first = get(buffer, 0, 0);
@@ -301,7 +396,7 @@ fn victim(image: &mut [u32], count: u32) {
     set_all(image, 0, count);
     let r = write(image, 0, 106);
     let answer = r.answer;
-    show(shellwaltz::number(answer));
+    show(answers::number(answer));
     and(r.words);
     and(r.erasures);
     end_line();
@@ -322,6 +417,7 @@ fn check_rules(image: &mut [u32]) {
 
 fn run(image: &mut [u32], buffer: &mut [u32]) {
     check_rules(image);
+    name_faults(image);
     session(image, buffer);
     first_erasure(image);
     victim(image, 999999);

@@ -1,18 +1,17 @@
--- What the check of an image goes by: the marks of R5, R2 to R5 in one pass, and the rules of all blocks together. Assumes nothing.
+-- What the check of an image goes by: the marks of R5, and R2 to R5 in one pass. Assumes nothing.
 use mathlib.Core.List.{List}
 use mathlib.Core.Path.{_≡_, refl, sym, ap, _∙_}
-use mathlib.Core.Bool.{Bool, true, false, not, cond, _&&_, _||_, and-true, and-false, or-true, or-false, or-assoc}
-use Prim.Native.Nat.{ℕ, zero, suc, _+_, _*_, _-_, _/_, _%_, _<_, _≤_}
+use mathlib.Core.Bool.{Bool, true, false, not, _&&_, _||_, and-true, and-false, or-true, or-false, or-assoc}
+use Prim.Native.Nat.{ℕ, zero, suc, _+_, _*_, _/_, _%_, _<_, _≤_}
 use native.Mathlib.Numerals.{add-one}
 use native.Mathlib.Decide.{ℕ-discrete}
 use native.Mathlib.Omega.{arith}
-use lib.Dec.{eqb, ltb}
+use lib.Dec.{eqb}
 use lib.ListN.{length, getD, set, replicate, length-replicate, getD-replicate}
 use lib.Seq.{getD-set-same, getD-set-other}
-use borrow.Author.Tests.{eq-eqb, ne-eqb, lt-ltb}
-use Rattle.ranges.specs.Range.{_implies_, allBelow, anyBelow, countBelow}
-use Rattle.ranges.proofs.Tests.{both-pass, not-all}
-use Rattle.ranges.proofs.Sums.{any-count}
+use borrow.Author.Tests.{eq-eqb, ne-eqb}
+use Rattle.ranges.specs.Range.{_implies_, allBelow, anyBelow}
+use Rattle.ranges.proofs.Tests.{both-pass}
 use Rattle.bits.specs.Word.{ones, bit, isSet, cleared}
 use Rattle.bits.proofs.Bit.{set-bit, clear-bit, ones-bit}
 use Rattle.bits.proofs.Clearing.{cleared-here, cleared-other}
@@ -22,9 +21,7 @@ use Rattle.image.specs.declared.Slot.{Slot}
 use Rattle.image.specs.declared.Slot.the-variants.{Live}
 use Rattle.image.specs.Words.{Image, contents}
 use Rattle.image.specs.Slots.{slot, isFree, isFaulty, isLiveWith, isLiveFor, liveIn}
-use Rattle.image.specs.Blocks.{blank}
-use Rattle.image.specs.WellFormed.{allOnes, mapAgrees, restSet, liveBefore, R1, R2, R3, R4, R5, R6, R7}
-use Rattle.image.specs.WellFormed.{soundBlock, sound, wellFormed, brokenRule}
+use Rattle.image.specs.WellFormed.{allOnes, mapAgrees, restSet, liveBefore, R2, R3, R4, R5}
 use Rattle.checking.specs.Marks.{markWords, seen, Marks}
 use Rattle.rules.proofs.RuleLaws.{agrees, clean}
 
@@ -162,38 +159,3 @@ module _ (geo : Geometry) (image : Image) where
       let to3 = both-pass (R2 geo image b && R3 geo image b) (R4 geo image b) (to4 .0) in
       let to2 = both-pass (R2 geo image b) (R3 geo image b) (to3 .0) in
       (to2 .0, to2 .1, to3 .1, to4 .1)
-
--- ---- the rules of a block and of the image together
-
-module _ (geo : Geometry) (image : Image) where
-  -- a block is sound exactly where no rule of its own is broken
-  pub sound-broken : (b : ℕ) → soundBlock geo image b ≡ eqb (brokenRule geo image b) 0
-  unfolding soundBlock brokenRule
-  sound-broken b = go (R1 geo image b) (R2 geo image b) (R3 geo image b) (R4 geo image b) (R5 geo image b) (R7 geo image b)
-    where
-      go :
-          (r₁ r₂ r₃ r₄ r₅ r₇ : Bool) →
-          (r₁ && r₂ && r₃ && r₄ && r₅ && r₇)
-          ≡ eqb (cond (not r₁) 1 (cond (not r₂) 2 (cond (not r₃) 3 (cond (not r₄) 4 (cond (not r₅) 5 (cond (not r₇) 7 0)))))) 0
-      go false r₂ r₃ r₄ r₅ r₇ = refl
-      go true false r₃ r₄ r₅ r₇ = refl
-      go true true false r₄ r₅ r₇ = refl
-      go true true true false r₅ r₇ = refl
-      go true true true true false r₇ = refl
-      go true true true true true false = refl
-      go true true true true true true = refl
-
-  -- one block that is not sound
-  pub unsound-fails : (b : ℕ) → b < geo .blocks → soundBlock geo image b ≡ false → wellFormed geo image ≡ false
-  unfolding wellFormed sound
-  unsound-fails b l e = ap (_&& R6 geo image) (not-all (geo .blocks) (soundBlock geo image) l e)
-
-  -- where all blocks are sound R6 decides, by the number of blank blocks
-  pub sound-decides : sound geo image ≡ true → wellFormed geo image ≡ ltb 0 (countBelow (geo .blocks) (blank geo image))
-  unfolding wellFormed R6
-  sound-decides s =
-      ap (_&& R6 geo image) s ∙ any-count (geo .blocks) (blank geo image) ∙ go (countBelow (geo .blocks) (blank geo image))
-    where
-      go : (n : ℕ) → not (eqb n 0) ≡ ltb 0 n
-      go zero = refl
-      go (suc n) = ap not (ne-eqb (suc n) 0 (λ e. omega arith)) ∙ sym (lt-ltb 0 (suc n) (omega arith))

@@ -1,4 +1,4 @@
-// Whether an image is well formed: R1 to R7, each block in turn, and every word a bounded number of times.
+// What is wrong with an image: the first block and rule that fail, each block in turn, and every word a bounded number of times.
 ghost use mathlib.Core.Bool.{true, false, not, _&&_, _||_};
 ghost use mathlib.Core.Path.{_≡_};
 ghost use Prim.Native.Nat.{ℕ, suc, _*_, _<_};
@@ -6,10 +6,12 @@ ghost use lib.Dec.{eqb};
 ghost use lib.ListN.{length};
 ghost use Rattle.geometry.specs.Geometry.{d};
 ghost use Rattle.image.specs.Words.{Shaped};
-ghost use Rattle.image.specs.WellFormed.{R2, R3, R4, R5, brokenRule, wellFormed};
+ghost use Rattle.image.specs.WellFormed.{R2, R3, R4, R5, brokenRule};
+ghost use Rattle.image.specs.Faults.{firstFault};
 ghost use Rattle.checking.specs.Marks.{markWords, seen, Marks};
 use blocks::count_blank;
 use geometry::Geometry;
+use image::Fault;
 use image::Slot;
 use image::slots::slot_of;
 use rules::contents_clean;
@@ -92,17 +94,26 @@ fn broken_rule(image: &[u32], geo: Geometry, b: usize, marks: &mut [u32]) -> u32
     0
 }
 
-// Whether the image is well formed: each block by its rules in turn, then R6.
-pub fn well_formed(image: &[u32], geo: Geometry) -> bool
+// The first failing pair: each block by its rules in turn, then R6, which names block B; two zeros where the image is well formed.
+pub fn first_fault(image: &[u32], geo: Geometry) -> Fault
     requires { ⌜ Shaped geo (now image) ⌝ }
-    ensures { λ r. ⌜ r ≡ wellFormed geo (now (image .entry)) ⌝ }
+    ensures { λ r. ⌜ r ≡ firstFault geo (now (image .entry)) ⌝ }
 {
     let blocks = geo.blocks as usize;
     let mut marks = [0xFFFF_FFFFu32; 124];
     for b in 0..blocks {
-        if broken_rule(image, geo, b, &mut marks) != 0 {
-            return false;
+        let rule = broken_rule(image, geo, b, &mut marks);
+        if rule != 0 {
+            let block = b as u32;
+            return Fault { block, rule };
         }
     }
-    0 < count_blank(image, geo)
+    if count_blank(image, geo) == 0 {
+        let past_all = geo.blocks as u32;
+        return Fault {
+            block: past_all,
+            rule: 6,
+        };
+    }
+    Fault { block: 0, rule: 0 }
 }

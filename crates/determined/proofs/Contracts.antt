@@ -2,8 +2,9 @@
 -- outcome, `_`, is read off the clauses, which are its equations by computation. Assumes nothing.
 use mathlib.Core.Path.{refl}
 use mathlib.Core.List.{[], _∷_}
-use Rattle.determined.specs.Contracts.{EveryContract, number, format, check, report, read, write, release, c-format, c-check, c-report, c-read, c-write, c-release, script-geometry, record-of, other, carry-out}
+use Rattle.determined.specs.Contracts.{EveryContract, number, bad-block, bad-rule, format, check, report, read, write, release, c-format, c-check, c-report, c-read, c-write, c-release, script-geometry, record-of, other, carry-out}
 use Rattle.determined.proofs.Law.{kept, count, words, left, determined, nothing}
+use Rattle.answers.proofs as answers
 use Rattle.shellwaltz.proofs as calls
 use Rattle.shellwaltz_c.proofs as in-c
 use Rattle.records.proofs as records
@@ -11,7 +12,9 @@ use Rattle.records.proofs as records
 pub every-contract : EveryContract
 every-contract =
     record {
-      of-number = determined number (left (kept ∷ [])) _ nothing (λ w c g o. refl) (λ M. calls.number.Met.met);
+      of-number = determined number (left (kept ∷ [])) _ nothing (λ w c g o. refl) (λ M. answers.number.Met.met);
+      of-bad-block = determined bad-block (left (kept ∷ [])) _ nothing (λ w c g o. refl) (λ M. answers.bad_block.Met.met);
+      of-bad-rule = determined bad-rule (left (kept ∷ [])) _ nothing (λ w c g o. refl) (λ M. answers.bad_rule.Met.met);
       of-format = determined format (left (words ∷ kept ∷ [])) _ nothing (λ w c g o. refl) (λ M. calls.format.Met.met);
       of-check = determined check (left (kept ∷ kept ∷ [])) _ nothing (λ w c g o. refl) (λ M. calls.check.Met.met);
       of-report = determined report (left (kept ∷ kept ∷ [])) _ nothing (λ w c g o. refl) (λ M. calls.report.Met.met);
@@ -22,19 +25,19 @@ every-contract =
           determined c-format (left (kept ∷ kept ∷ kept ∷ words ∷ count ∷ count ∷ [])) _ nothing (λ w c g o. refl)
           (λ M. in-c.shellwaltz_format.Met.met);
       of-c-check =
-          determined c-check (left (kept ∷ kept ∷ kept ∷ kept ∷ [])) _ nothing (λ w c g o. refl)
+          determined c-check (left (kept ∷ kept ∷ kept ∷ kept ∷ count ∷ count ∷ [])) _ nothing (λ w c g o. refl)
           (λ M. in-c.shellwaltz_check.Met.met);
       of-c-report =
-          determined c-report (left (kept ∷ kept ∷ kept ∷ kept ∷ count ∷ count ∷ count ∷ count ∷ [])) _ nothing (λ w c g o. refl)
+          determined c-report (left (kept ∷ kept ∷ kept ∷ kept ∷ count ∷ count ∷ count ∷ count ∷ count ∷ count ∷ [])) _ nothing (λ w c g o. refl)
           (λ M. in-c.shellwaltz_report.Met.met);
       of-c-read =
-          determined c-read (left (kept ∷ kept ∷ kept ∷ kept ∷ kept ∷ words ∷ [])) _ nothing (λ w c g o. refl)
+          determined c-read (left (kept ∷ kept ∷ kept ∷ kept ∷ kept ∷ words ∷ count ∷ count ∷ [])) _ nothing (λ w c g o. refl)
           (λ M. in-c.shellwaltz_read.Met.met);
       of-c-write =
-          determined c-write (left (kept ∷ kept ∷ kept ∷ words ∷ kept ∷ kept ∷ count ∷ count ∷ [])) _ nothing (λ w c g o. refl)
+          determined c-write (left (kept ∷ kept ∷ kept ∷ words ∷ kept ∷ kept ∷ count ∷ count ∷ count ∷ count ∷ [])) _ nothing (λ w c g o. refl)
           (λ M. in-c.shellwaltz_write.Met.met);
       of-c-release =
-          determined c-release (left (kept ∷ kept ∷ kept ∷ words ∷ kept ∷ count ∷ count ∷ [])) _ nothing (λ w c g o. refl)
+          determined c-release (left (kept ∷ kept ∷ kept ∷ words ∷ kept ∷ count ∷ count ∷ count ∷ count ∷ [])) _ nothing (λ w c g o. refl)
           (λ M. in-c.shellwaltz_release.Met.met);
       of-script-geometry = determined script-geometry (left []) _ nothing (λ w c g o. refl) (λ M. records.script_geometry.Met.met);
       of-record-of = determined record-of (left (kept ∷ [])) _ nothing (λ w c g o. refl) (λ M. records.record_of.Met.met);

@@ -4,14 +4,22 @@
 -- To add a public function: give it no `requires`, and as `ensures` equations whose right sides name the arguments alone, one for the result
 -- and then one for each `&mut` parameter, in the parameters' order. Name it here, and add a line to `EveryContract` and one to its proof.
 use Rattle.determined.specs.Determined.{Function, Determined}
+use Rattle.answers.proofs as answers
 use Rattle.shellwaltz.proofs as calls
 use Rattle.shellwaltz_c.proofs as in-c
 use Rattle.records.proofs as records
 
--- ---- the calls
+-- ---- what an answer says
 abbrev pub number : Function
-number = record { ended = calls.number.ended; clauses = λ M. calls.number.clauses; routine = calls.number.Symbol.routine }
+number = record { ended = answers.number.ended; clauses = λ M. answers.number.clauses; routine = answers.number.Symbol.routine }
 
+abbrev pub bad-block : Function
+bad-block = record { ended = answers.bad_block.ended; clauses = λ M. answers.bad_block.clauses; routine = answers.bad_block.Symbol.routine }
+
+abbrev pub bad-rule : Function
+bad-rule = record { ended = answers.bad_rule.ended; clauses = λ M. answers.bad_rule.clauses; routine = answers.bad_rule.Symbol.routine }
+
+-- ---- the calls
 abbrev pub format : Function
 format = record { ended = calls.format.ended; clauses = λ M. calls.format.clauses; routine = calls.format.Symbol.routine }
 
@@ -71,6 +79,8 @@ carry-out = record { ended = records.carry_out.ended; clauses = λ M. records.ca
 
 pub record EveryContract : Type 2 where
   pub of-number : Determined number
+  pub of-bad-block : Determined bad-block
+  pub of-bad-rule : Determined bad-rule
   pub of-format : Determined format
   pub of-check : Determined check
   pub of-report : Determined report

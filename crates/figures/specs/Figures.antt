@@ -11,7 +11,8 @@ use Rattle.image.specs.declared.Slot.{Slot}
 use Rattle.image.specs.declared.Slot.the-variants.{Free, Live, Dead, Faulty}
 use Rattle.image.specs.Words.{entry, freeMap}
 use Rattle.image.specs.Slots.{slotOf}
-use Rattle.shellwaltz.specs.Refusals.{numberOf, formatAnswer}
+use Rattle.answers.specs.Answers.{numberOf}
+use Rattle.shellwaltz.specs.Refusals.{formatAnswer}
 use Rattle.shellwaltz.specs.Calls.{fresh, writeOutcome, written, released}
 use Rattle.promises.specs.Runs.{Call, Write, ran, started}
 

@@ -4,3 +4,4 @@ pub mod Facts
 pub mod Finding
 pub mod Places
 pub mod Capacity
+pub mod Faults

@@ -22,6 +22,13 @@ use Rattle.image.specs.Blocks.{blank, full, isOpen, freeSlots, lowestFre
 use Rattle.image.specs.WellFormed.{mapAgrees, restSet, R2}
 use Rattle.image.proofs.Entries.{free-test}
 
+-- two tests that are found to be the same
+pub beq-true : (x y : Bool) → Bool·beq x y ≡ true → x ≡ y
+beq-true true true e = refl
+beq-true true false e = sym e
+beq-true false true e = e
+beq-true false false e = refl
+
 -- slot j of a block by the word that the code reads, where `base` is the place of the block's first entry
 abbrev pub slotFrom : Image → ℕ → ℕ → ℕ → Slot
 slotFrom image logical base j = slotOf logical (word image (base + j))
@@ -67,12 +74,6 @@ module _ (geo : Geometry) (image : Image) where
   map-says b r i l =
       beq-true (mapBit geo image b i) (isFreeEntry (entry geo image b i)) (all-at (d geo) _ (both-pass (mapAgrees geo image b) (restSet geo image b) r .0) i l)
       ∙ sym (free-read b i)
-    where
-      beq-true : (x y : Bool) → Bool·beq x y ≡ true → x ≡ y
-      beq-true true true e = refl
-      beq-true true false e = sym e
-      beq-true false true e = e
-      beq-true false false e = refl
 
   pub map-rest : (b : ℕ) → R2 geo image b ≡ true → (i : ℕ) → d geo ≤ i → i < 32 * k geo → mapBit geo image b i ≡ true
   unfolding R2

@@ -2,3 +2,4 @@ pub mod Words
 pub mod Slots
 pub mod Blocks
 pub mod WellFormed
+pub mod Faults

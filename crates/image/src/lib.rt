@@ -22,3 +22,9 @@ pub struct Tally {
     pub live: u32,
     pub dead: u32,
 }
+
+// What the check names (K1): a block and the rule that fails there, by its number; two zeros where nothing fails.
+pub struct Fault {
+    pub block: u32,
+    pub rule: u32,
+}

@@ -20,11 +20,11 @@ use Rattle.flash.specs.Writing.{mustReclaim, writing}
 use Rattle.flash.proofs.Filling.{Ready}
 use Rattle.flash.proofs.Written.{Wrote, writing-wrote}
 use Rattle.flash.proofs.Released.{Released, releasing-released}
-use Rattle.shellwaltz.specs.declared.Answer.the-variants.{Accepted}
+use Rattle.answers.specs.declared.Answer.the-variants.{Accepted}
+use Rattle.answers.proofs.Acceptance.{if-accepted}
 use Rattle.shellwaltz.specs.Refusals.{formatRows, checkRows, readRows, writeRows, releaseRows, formatAnswer, checkAnswer, readAnswer, writeAnswer, releaseAnswer}
 use Rattle.shellwaltz.specs.Calls.{writeSteps, releaseSteps}
 use Rattle.shellwaltz.proofs.CallLaws.{shaped-left, formed-ready}
-use Rattle.shellwaltz.proofs.Rows.{if-accepted}
 use Rattle.promises.proofs.Given.{NoneApplies, none-applies}
 
 module _ (geo : Geometry) (image : Image) where

@@ -2,6 +2,7 @@
 use mathlib.Core.Path.{_≡_, refl, sym, ap, _∙_}
 use mathlib.Core.Bool.{Bool, true, false, cond, true≢false}
 use mathlib.Core.List.{List, []}
+use mathlib.Core.Logic.{inl, inr}
 use mathlib.Core.Option.{some, none}
 use Prim.Native.Nat.{ℕ, _+_, _-_, _*_, _/_}
 use native.Mathlib.Omega.{arith}
@@ -12,6 +13,7 @@ use Rattle.image.specs.declared.Found.the-variants.{At, Nothing}
 use Rattle.image.specs.Words.{Image}
 use Rattle.image.specs.Slots.{find, mapOf}
 use Rattle.image.specs.Blocks.{victim}
+use Rattle.image.specs.Faults.{firstFault}
 use Rattle.image.proofs.Finding.{map-at, map-nothing}
 use Rattle.flash.specs.Steps.{Step, run, erasuresIn, erasesBlock}
 use Rattle.flash.specs.Placing.{releasing}
@@ -20,15 +22,15 @@ use Rattle.flash.proofs.Stores.{run-none}
 use Rattle.flash.proofs.Counts.{releasing-erasures, filling-erases-nothing}
 use Rattle.flash.proofs.Clearing.{program-clears, run-clears, erases-none}
 use Rattle.flash.proofs.Planned.{writing-fills}
-use Rattle.shellwaltz.specs.declared.Answer.{Answer}
-use Rattle.shellwaltz.specs.declared.Answer.the-variants.{Accepted, BadGeometry, BadBuffer, BadNumber, Malformed, Unmapped, WornOut}
+use Rattle.answers.specs.declared.Answer.the-variants.{Accepted, BadGeometry, BadBuffer, BadNumber, Malformed, Unmapped}
+use Rattle.answers.specs.Answers.{numberOf}
+use Rattle.answers.proofs.Acceptance.{if-accepted, if-refused, accepted?}
 use Rattle.shellwaltz.specs.Refusals.{formatRows, checkRows, readRows, writeRows, releaseRows, formatAnswer, checkAnswer, readAnswer, writeAnswer, releaseAnswer, row1, row2, row3, row4}
-use Rattle.shellwaltz.specs.Calls.{ifAccepted, fresh, formatted, totalsOf, noTotals, reported, copiedFrom, readBuffer, writeSteps, releaseSteps, outcome}
+use Rattle.shellwaltz.specs.Calls.{fresh, formatted, totalsOf, noTotals, reported, copiedFrom, readBuffer, writeSteps, releaseSteps, outcome}
 use Rattle.promises.specs.Runs.{ran, started}
-use Rattle.promises.specs.Demands.{Refusals, RefusedChangesNothing, ReadReturnsTheMap, WriteSetsOneSector, ReleaseRemovesOneSector, AStepOnlyClears, ProgrammingOnlyClears, OnlyTheVictimIsErased, StepsLeaveTheAskedWord, WriteBound, RunBound, RunBoundFromAny}
-use Rattle.shellwaltz.proofs.Rows.{if-accepted, if-refused}
+use Rattle.promises.specs.Demands.{Refusals, EveryAnswerNamesThePair, RefusedChangesNothing, ReadReturnsTheMap, WriteSetsOneSector, ReleaseRemovesOneSector, AStepOnlyClears, ProgrammingOnlyClears, OnlyTheVictimIsErased, StepsLeaveTheAskedWord, WriteBound, RunBound, RunBoundFromAny}
 use Rattle.shellwaltz.proofs.CallLaws.{formed-ready}
-use Rattle.promises.proofs.Given.{given-exactly, accepted?, if-either}
+use Rattle.promises.proofs.Given.{given-exactly, names-the-pair, if-either}
 use Rattle.promises.proofs.Accepted.{check-accepted, format-accepted, read-accepted, ready-formed, write-steps, write-wrote, release-steps, release-blank, release-released}
 use Rattle.promises.proofs.Fresh.{fresh-ready, fresh-blank, fresh-frees, fresh-worn}
 use Rattle.promises.proofs.Running.{runs}
@@ -38,16 +40,11 @@ use Rattle.promises.proofs.Running.{runs}
 -- a report carries the answer of a check, accepted or not
 report-answer : (geo : Geometry) (image : Image) → reported geo image .answer ≡ checkAnswer geo image
 unfolding reported
-report-answer geo image = go (checkAnswer geo image)
+report-answer geo image = go (accepted? (checkAnswer geo image))
   where
-    go : (a : Answer) → _≡_ {A = Answer} (ifAccepted a (totalsOf geo image) (noTotals geo image a) .answer) a
-    go Accepted = refl
-    go BadGeometry = refl
-    go BadBuffer = refl
-    go BadNumber = refl
-    go Malformed = refl
-    go Unmapped = refl
-    go WornOut = refl
+    go : Dec (checkAnswer geo image ≡ Accepted) → reported geo image .answer ≡ checkAnswer geo image
+    go (yes e) = ap (λ t. t .answer) (if-accepted (totalsOf geo image) (noTotals (checkAnswer geo image)) e) ∙ sym e
+    go (no n) = ap (λ t. t .answer) (if-refused (checkAnswer geo image) (totalsOf geo image) (noTotals (checkAnswer geo image)) n)
 
 pub refusals : Refusals
 unfolding formatAnswer checkAnswer readAnswer writeAnswer releaseAnswer
@@ -60,11 +57,23 @@ refusals geo image n buffer = (
   given-exactly (releaseRows geo image n) refl,
 )
 
+pub every-answer-names-the-pair : EveryAnswerNamesThePair
+unfolding formatAnswer checkAnswer readAnswer writeAnswer releaseAnswer
+every-answer-names-the-pair geo image n buffer =
+    let checks = names-the-pair geo image (checkRows geo image) (inl refl, (inr refl, tt)) in (
+      names-the-pair geo image (formatRows geo image) (inl refl, tt),
+      checks,
+      rw (report-answer geo image) checks,
+      names-the-pair geo image (readRows geo image n buffer) (inl refl, (inl refl, (inl refl, (inr refl, (inl refl, tt))))),
+      names-the-pair geo image (writeRows geo image n buffer) (inl refl, (inl refl, (inl refl, (inr refl, (inl refl, tt))))),
+      names-the-pair geo image (releaseRows geo image n) (inl refl, (inl refl, (inr refl, (inl refl, tt)))),
+    )
+
 pub refused-changes-nothing : RefusedChangesNothing
 unfolding formatted reported readBuffer writeSteps releaseSteps
 refused-changes-nothing geo image n buffer = (
   λ no. if-refused (formatAnswer geo image) (fresh geo) image no,
-  λ no. if-refused (checkAnswer geo image) (totalsOf geo image) (noTotals geo image (checkAnswer geo image)) no,
+  λ no. if-refused (checkAnswer geo image) (totalsOf geo image) (noTotals (checkAnswer geo image)) no,
   λ no. if-refused (readAnswer geo image n buffer) (copiedFrom geo image (find geo image n) buffer) buffer no,
   λ no.
       let none-done = if-refused (writeAnswer geo image n buffer) (writing geo image n buffer) [] no in
@@ -91,19 +100,20 @@ read-returns-the-map geo image n buffer = (
   where
     -- where row 5 does not apply, Unmapped is not given
     not-given :
-        (a b c e : Bool) →
-        cond a BadGeometry (cond b BadBuffer (cond c BadNumber (cond e Malformed Accepted))) ≡ Unmapped →
+        (a b c e : Bool) (block rule : ℕ) →
+        cond a BadGeometry (cond b BadBuffer (cond c BadNumber (cond e (Malformed block rule) Accepted))) ≡ Unmapped →
         ⊥
-    not-given true b c e q = let z : _≡_ {A = ℕ} 0 1 = cc in omega arith
-    not-given false true c e q = let z : _≡_ {A = ℕ} 0 1 = cc in omega arith
-    not-given false false true e q = let z : _≡_ {A = ℕ} 0 1 = cc in omega arith
-    not-given false false false true q = let z : _≡_ {A = ℕ} 0 1 = cc in omega arith
-    not-given false false false false q = let z : _≡_ {A = ℕ} 0 1 = cc in omega arith
+    not-given true b c e block rule q = omega (arith, ap numberOf q)
+    not-given false true c e block rule q = omega (arith, ap numberOf q)
+    not-given false false true e block rule q = omega (arith, ap numberOf q)
+    not-given false false false true block rule q = omega (arith, ap numberOf q)
+    not-given false false false false block rule q = omega (arith, ap numberOf q)
 
     unmapped : (f : Found) → find geo image n ≡ f → readAnswer geo image n buffer ≡ Unmapped → mapOf geo image n ≡ none
     unmapped (At b i) e answer =
         absurd
         (not-given (row1 geo image .applies) (row2 geo image buffer .applies) (row3 geo image n .applies) (row4 geo image .applies)
+        (firstFault geo image .block) (firstFault geo image .rule)
         (rw e at answer))
     unmapped Nothing e answer = map-nothing geo image n e
 

@@ -22,14 +22,13 @@ use Rattle.flash.specs.Placing.{releasing}
 use Rattle.flash.specs.Writing.{writing}
 use Rattle.flash.proofs.Counts.{placing-words}
 use Rattle.flash.proofs.Unused.{spares-none, releasing-spares}
-use Rattle.shellwaltz.specs.declared.Answer.the-variants.{Accepted}
+use Rattle.answers.specs.declared.Answer.the-variants.{Accepted}
+use Rattle.answers.proofs.Acceptance.{if-accepted, if-refused, accepted?}
 use Rattle.shellwaltz.specs.Refusals.{checkAnswer, readAnswer, writeAnswer, releaseAnswer}
 use Rattle.shellwaltz.specs.Calls.{fresh, formatted, totalsOf, noTotals, reported, readBuffer, writeSteps, releaseSteps}
 use Rattle.promises.specs.Properties.{TheOneSlot, FormatMakesAFreshImage, ReportAddsUp, OthersReadAsBefore, UnusedWordsAreNotProgrammed, PlacingCosts, WearAndFreeSlots}
 use Rattle.promises.proofs.Accepted.{check-accepted, format-accepted, ready-formed, write-accepted, write-steps, write-wrote, release-accepted, release-steps, release-blank, release-released}
 use Rattle.promises.proofs.Fresh.{fresh-formed, fresh-map, fresh-frees, fresh-worn}
-use Rattle.shellwaltz.proofs.Rows.{if-accepted, if-refused}
-use Rattle.promises.proofs.Given.{accepted?}
 use Rattle.shellwaltz.proofs.CallLaws.{formed-ready}
 
 pub the-one-slot : TheOneSlot
@@ -50,7 +49,7 @@ unfolding reported
 report-adds-up geo image words accepted =
     let checked = check-accepted geo image accepted in
     let ready = formed-ready geo image (checked .0) words (checked .1) .0 in
-    rw (if-accepted (totalsOf geo image) (noTotals geo image (checkAnswer geo image)) accepted)
+    rw (if-accepted (totalsOf geo image) (noTotals (checkAnswer geo image)) accepted)
     (image-parts geo image (ready .sound), live-at-most geo image (ready .sound) words)
 
 -- two images of one length, both well formed, that map m alike read m alike

@@ -14,12 +14,11 @@ use Rattle.flash.specs.Writing.{writing}
 use Rattle.flash.proofs.Filling.{Ready}
 use Rattle.flash.proofs.Stores.{run-none}
 use Rattle.flash.proofs.Written.{freeIn, wornIn, Wrote}
-use Rattle.shellwaltz.specs.declared.Answer.the-variants.{Accepted}
+use Rattle.answers.specs.declared.Answer.the-variants.{Accepted}
+use Rattle.answers.proofs.Acceptance.{if-accepted, if-refused, accepted?}
 use Rattle.shellwaltz.specs.Refusals.{writeAnswer, releaseAnswer}
 use Rattle.shellwaltz.specs.Calls.{writeSteps, releaseSteps}
 use Rattle.promises.specs.Runs.{Call, Check, Report, Read, Write, Release, State, called, ran, OfWords}
-use Rattle.shellwaltz.proofs.Rows.{if-accepted, if-refused}
-use Rattle.promises.proofs.Given.{accepted?}
 use Rattle.promises.proofs.Accepted.{write-steps, write-wrote, release-steps, release-released}
 
 -- an image that is well formed, of the right shape and of 32-bit words

@@ -16,12 +16,14 @@ use Rattle.image.specs.Words.{Image, Words32, word, eraseCount}
 use Rattle.image.specs.Slots.{mapOf}
 use Rattle.image.specs.Blocks.{freeSlots, victim}
 use Rattle.image.specs.WellFormed.{wellFormed}
+use Rattle.image.specs.Faults.{firstFault}
 use Rattle.flash.specs.Steps.{programmedAt, run, erasesBlock, leavesAsked}
 use Rattle.flash.specs.Placing.{releasing}
 use Rattle.flash.specs.Writing.{mustReclaim, writing}
-use Rattle.shellwaltz.specs.declared.Answer.{Answer}
-use Rattle.shellwaltz.specs.declared.Answer.the-variants.{Accepted, Unmapped}
-use Rattle.shellwaltz.specs.Refusals.{numberOf, Row, formatRows, checkRows, readRows, writeRows, releaseRows, formatAnswer, checkAnswer, readAnswer, writeAnswer, releaseAnswer}
+use Rattle.answers.specs.declared.Answer.{Answer}
+use Rattle.answers.specs.declared.Answer.the-variants.{Accepted, Unmapped}
+use Rattle.answers.specs.Answers.{numberOf, blockOf, ruleOf}
+use Rattle.shellwaltz.specs.Refusals.{Row, formatRows, checkRows, readRows, writeRows, releaseRows, formatAnswer, checkAnswer, readAnswer, writeAnswer, releaseAnswer}
 use Rattle.shellwaltz.specs.Calls.{formatted, noTotals, reported, readBuffer, writeSteps, writeOutcome, written, releaseOutcome, released, outcome}
 use Rattle.promises.specs.Runs.{Call, OfWords, State, ran, started}
 
@@ -57,12 +59,28 @@ Refusals =
     × GivenExactly (writeAnswer geo image n buffer) (writeRows geo image n buffer)
     × GivenExactly (releaseAnswer geo image n) (releaseRows geo image n)
 
+-- K1: refusal 4 names the first failing pair (image/specs/Faults), whichever call gives it; any other answer names block 0 and rule 0.
+abbrev pub NamesThePair : Geometry → Image → Answer → Type 0
+NamesThePair geo image answer =
+    (numberOf answer ≡ 4 → (blockOf answer ≡ firstFault geo image .block) × (ruleOf answer ≡ firstFault geo image .rule))
+    × (numberOf answer ≢ 4 → (blockOf answer ≡ 0) × (ruleOf answer ≡ 0))
+
+abbrev pub EveryAnswerNamesThePair : Type 0
+EveryAnswerNamesThePair =
+    (geo : Geometry) (image : Image) (n : ℕ) (buffer : List ℕ) →
+    NamesThePair geo image (formatAnswer geo image)
+    × NamesThePair geo image (checkAnswer geo image)
+    × NamesThePair geo image (reported geo image .answer)
+    × NamesThePair geo image (readAnswer geo image n buffer)
+    × NamesThePair geo image (writeAnswer geo image n buffer)
+    × NamesThePair geo image (releaseAnswer geo image n)
+
 -- A refused call changes no word of image or buffer, and reports zeros.
 abbrev pub RefusedChangesNothing : Type 0
 RefusedChangesNothing =
     (geo : Geometry) (image : Image) (n : ℕ) (buffer : List ℕ) →
     (formatAnswer geo image ≢ Accepted → formatted geo image ≡ image)
-    × (checkAnswer geo image ≢ Accepted → reported geo image ≡ noTotals geo image (checkAnswer geo image))
+    × (checkAnswer geo image ≢ Accepted → reported geo image ≡ noTotals (checkAnswer geo image))
     × (readAnswer geo image n buffer ≢ Accepted → readBuffer geo image n buffer ≡ buffer)
     × (writeAnswer geo image n buffer ≢ Accepted →
     (written geo image n buffer ≡ image) × (writeOutcome geo image n buffer ≡ outcome (writeAnswer geo image n buffer) []))

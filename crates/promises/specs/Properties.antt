@@ -17,7 +17,7 @@ use Rattle.image.specs.Blocks.{full, freeSlots, deadSlots, victim}
 use Rattle.image.specs.WellFormed.{wellFormed}
 use Rattle.flash.specs.Steps.{run, wordsIn, programsWord}
 use Rattle.flash.specs.Placing.{fillsSlot, placing}
-use Rattle.shellwaltz.specs.declared.Answer.the-variants.{Accepted}
+use Rattle.answers.specs.declared.Answer.the-variants.{Accepted}
 use Rattle.shellwaltz.specs.Refusals.{formatAnswer, checkAnswer, readAnswer, writeAnswer, releaseAnswer}
 use Rattle.shellwaltz.specs.Calls.{formatted, reported, readBuffer, writeSteps, releaseSteps, writeOutcome, written, releaseOutcome, released}
 

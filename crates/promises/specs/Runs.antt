@@ -4,7 +4,8 @@ use Prim.Native.Nat.{ℕ, _+_}
 use Rattle.geometry.specs.declared.Geometry.{Geometry}
 use Rattle.image.specs.Words.{Image, Words32}
 use Rattle.shellwaltz.specs.Refusals.{writeAnswer}
-use Rattle.shellwaltz.specs.Calls.{ifAccepted, writeOutcome, written, releaseOutcome, released}
+use Rattle.answers.specs.Answers.{ifAccepted}
+use Rattle.shellwaltz.specs.Calls.{writeOutcome, written, releaseOutcome, released}
 
 -- a call, with the number and the buffer that it is handed
 pub data Call : Type 0 where

@@ -7,7 +7,8 @@ use lib.ListN.{getD}
 use Rattle.geometry.specs.declared.Geometry.{Geometry}
 use Rattle.geometry.specs.Geometry.{shape, filled}
 use Rattle.image.specs.Words.{Image}
-use Rattle.shellwaltz.specs.Refusals.{numberOf, readAnswer}
+use Rattle.answers.specs.Answers.{numberOf}
+use Rattle.shellwaltz.specs.Refusals.{readAnswer}
 use Rattle.shellwaltz.specs.Calls.{readBuffer, writeOutcome, written, releaseOutcome, released}
 use Rattle.shellwaltz.specs.declared.Outcome.{Outcome}
 use Rattle.records.specs.declared.Line.{Line}

@@ -83,7 +83,7 @@ fn outcome_line(letter: u8, number: u32, done: Outcome) -> Line
     Line {
         letter,
         number,
-        answer: shellwaltz::number(answer),
+        answer: answers::number(answer),
         words: done.words,
         erasures: done.erasures,
         first: 0,
@@ -107,7 +107,7 @@ fn read(image: &[u32], number: u32) -> Line
     Line {
         letter: b'R',
         number,
-        answer: shellwaltz::number(answer),
+        answer: answers::number(answer),
         words: 0,
         erasures: 0,
         first: buffer[0],

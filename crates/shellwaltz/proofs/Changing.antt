@@ -8,12 +8,14 @@ use Rattle.geometry.specs.declared.Geometry.{Geometry}
 use Rattle.image.specs.Words.{Image}
 use Rattle.flash.specs.Steps.{Step, run, wordsIn, erasuresIn}
 use Rattle.flash.proofs.Stores.{run-none}
-use Rattle.shellwaltz.specs.declared.Answer.{Answer}
-use Rattle.shellwaltz.specs.declared.Answer.the-variants.{Accepted}
+use Rattle.answers.specs.declared.Answer.{Answer}
+use Rattle.answers.specs.declared.Answer.the-variants.{Accepted}
+use Rattle.answers.specs.Answers.{numberOf, ifAccepted}
+use Rattle.answers.proofs.Acceptance.{if-accepted, if-refused}
 use Rattle.shellwaltz.specs.declared.Outcome.{Outcome}
-use Rattle.shellwaltz.specs.Refusals.{Row, numberOf, firstThatApplies}
-use Rattle.shellwaltz.specs.Calls.{ifAccepted, outcome}
-use Rattle.shellwaltz.proofs.Rows.{numbered, FirstIs, first-is, first-number, if-accepted, if-refused}
+use Rattle.shellwaltz.specs.Refusals.{Row, firstThatApplies}
+use Rattle.shellwaltz.specs.Calls.{outcome}
+use Rattle.shellwaltz.proofs.Rows.{numbered, FirstIs, first-is, first-number}
 
 -- a call whose steps are these where it is accepted, and none where it is refused
 module _ (geo : Geometry) (image : Image) (answer : Answer) (steps : List Step) where

@@ -1,6 +1,5 @@
--- The first row that applies: what is given by it, and by a call that is accepted or not. Assumes nothing.
-use mathlib.Core.Path.{_≡_, refl}
-use mathlib.Core.Logic.{_≢_}
+-- The first row that applies, and the number of what is given by it. Assumes nothing.
+use mathlib.Core.Path.{_≡_}
 use mathlib.Core.Bool.{Bool, true, false, _&&_}
 use mathlib.Core.List.{List, [], _∷_}
 use Prim.Native.Nat.{_<_}
@@ -8,10 +7,9 @@ use native.Mathlib.Omega.{arith}
 use lib.Dec.{eqb, ltb}
 use borrow.Author.Tests.{eqb-true, ltb-true}
 use Rattle.ranges.proofs.Tests.{both-pass}
-use Rattle.shellwaltz.specs.declared.Answer.{Answer}
-use Rattle.shellwaltz.specs.declared.Answer.the-variants.{Accepted, BadGeometry, BadBuffer, BadNumber, Malformed, Unmapped, WornOut}
-use Rattle.shellwaltz.specs.Refusals.{numberOf, Row, firstThatApplies}
-use Rattle.shellwaltz.specs.Calls.{ifAccepted}
+use Rattle.answers.specs.declared.Answer.{Answer}
+use Rattle.answers.specs.Answers.{numberOf}
+use Rattle.shellwaltz.specs.Refusals.{Row, firstThatApplies}
 
 -- each row's refusal has the row's number, which is not 0
 abbrev pub numbered : List Row → Bool
@@ -37,16 +35,3 @@ first-is (later t f) = rw t (first-is f)
 pub first-number : {rows : List Row} {a : Answer} → FirstIs rows a → numbered rows ≡ true → 0 < numberOf a
 first-number (here {r} {rs} h) t = let parts = numbered-parts r rs t in omega (arith, parts .0, parts .1)
 first-number (later {r} {rs} h f) t = first-number f (numbered-parts r rs t .2)
-
--- what a call gives
-pub if-accepted {ℓ} : {A : Type ℓ} {a : Answer} (x y : A) → a ≡ Accepted → ifAccepted a x y ≡ x
-if-accepted x y e = rw e
-
-pub if-refused {ℓ} : {A : Type ℓ} (a : Answer) (x y : A) → a ≢ Accepted → ifAccepted a x y ≡ y
-if-refused Accepted x y n = absurd (n refl)
-if-refused BadGeometry x y n = refl
-if-refused BadBuffer x y n = refl
-if-refused BadNumber x y n = refl
-if-refused Malformed x y n = refl
-if-refused Unmapped x y n = refl
-if-refused WornOut x y n = refl

@@ -15,21 +15,12 @@ use Rattle.image.specs.Blocks.{freeSlots, liveSlots, deadSlots}
 use Rattle.flash.specs.Steps.{Step, run, wordsIn, erasuresIn}
 use Rattle.flash.specs.Placing.{releasing}
 use Rattle.flash.specs.Writing.{writing}
-use Rattle.shellwaltz.specs.declared.Answer.{Answer}
-use Rattle.shellwaltz.specs.declared.Answer.the-variants.{Accepted, BadGeometry, BadBuffer, BadNumber, Malformed, Unmapped, WornOut}
+use Rattle.answers.specs.declared.Answer.{Answer}
+use Rattle.answers.specs.declared.Answer.the-variants.{Accepted}
+use Rattle.answers.specs.Answers.{ifAccepted}
 use Rattle.shellwaltz.specs.declared.Outcome.{Outcome}
 use Rattle.shellwaltz.specs.declared.Totals.{Totals}
 use Rattle.shellwaltz.specs.Refusals.{formatAnswer, checkAnswer, readAnswer, writeAnswer, releaseAnswer}
-
--- what a call gives where it is accepted, and what it gives where it is refused
-abbrev pub ifAccepted {ℓ} : {A : Type ℓ} → Answer → A → A → A
-ifAccepted Accepted yes-this refused = yes-this
-ifAccepted BadGeometry yes-this refused = refused
-ifAccepted BadBuffer yes-this refused = refused
-ifAccepted BadNumber yes-this refused = refused
-ifAccepted Malformed yes-this refused = refused
-ifAccepted Unmapped yes-this refused = refused
-ifAccepted WornOut yes-this refused = refused
 
 module _ (geo : Geometry) where
   -- a format: all words are ones, but for word 0 of every block, which is 0. Here word 0 of the first m blocks is set
@@ -39,6 +30,10 @@ module _ (geo : Geometry) where
 
   unfoldable pub fresh : Image
   fresh = countsZeroed (replicate (imageLength geo) ones) (geo .blocks)
+
+-- a refused report has four zeros
+abbrev pub noTotals : Answer → Totals
+noTotals refusal = record { answer = refusal; mapped = 0; free = 0; dead = 0; «erase_sum» = 0 }
 
 module _ (geo : Geometry) (image : Image) where
   -- the image that a format leaves
@@ -59,10 +54,6 @@ module _ (geo : Geometry) (image : Image) where
         dead = sumBelow (geo .blocks) (deadSlots geo image);
         «erase_sum» = sumBelow (geo .blocks) (eraseCount geo image);
       }
-
-  -- a refused report has four zeros
-  abbrev pub noTotals : Answer → Totals
-  noTotals refusal = record { answer = refusal; mapped = 0; free = 0; dead = 0; «erase_sum» = 0 }
 
   unfoldable pub reported : Totals
   reported = ifAccepted (checkAnswer geo image) totalsOf (noTotals (checkAnswer geo image))

@@ -10,19 +10,10 @@ use Rattle.image.specs.Words.{Image, eraseCount}
 use Rattle.image.specs.Slots.{isMapped}
 use Rattle.image.specs.Blocks.{victim}
 use Rattle.image.specs.WellFormed.{wellFormed, ceiling}
+use Rattle.image.specs.Faults.{firstFault}
 use Rattle.flash.specs.Writing.{mustReclaim}
-use Rattle.shellwaltz.specs.declared.Answer.{Answer}
-use Rattle.shellwaltz.specs.declared.Answer.the-variants.{Accepted, BadGeometry, BadBuffer, BadNumber, Malformed, Unmapped, WornOut}
-
--- each answer's number in the table of refusals; 0 is acceptance
-abbrev pub numberOf : Answer → ℕ
-numberOf Accepted = 0
-numberOf BadGeometry = 1
-numberOf BadBuffer = 2
-numberOf BadNumber = 3
-numberOf Malformed = 4
-numberOf Unmapped = 5
-numberOf WornOut = 6
+use Rattle.answers.specs.declared.Answer.{Answer}
+use Rattle.answers.specs.declared.Answer.the-variants.{Accepted, BadGeometry, BadBuffer, BadNumber, Malformed, Unmapped, WornOut}
 
 -- a row of the table: its number, the answer that a call gives by it, and whether it applies
 pub record Row : Type 0 where
@@ -48,9 +39,14 @@ module _ (geo : Geometry) (image : Image) where
   abbrev pub row3 : ℕ → Row
   row3 n = record { number = 3; refusal = BadNumber; applies = leb (geo .logical) n }
 
-  -- refusal 4: a rule of well-formed images is broken. Every call but a format tests it.
+  -- refusal 4: a rule of well-formed images is broken. Every call but a format tests it, and names the first failing pair (K1).
   abbrev pub row4 : Row
-  row4 = record { number = 4; refusal = Malformed; applies = not (wellFormed geo image) }
+  row4 =
+      record {
+        number = 4;
+        refusal = Malformed (firstFault geo image .block) (firstFault geo image .rule);
+        applies = not (wellFormed geo image);
+      }
 
   -- refusal 5: what a read or a release asks for is not mapped
   abbrev pub row5 : ℕ → Row

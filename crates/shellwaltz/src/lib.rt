@@ -1,5 +1,6 @@
 // The calls: each tests its rows of the table of refusals (docs/FORMAT.md, Refusals), in the table's order, and then does its work.
-// Any geometry, image, number or buffer may be handed in; a refused call changes no word.
+// Any geometry, image, number or buffer may be handed in; a refused call changes no word. One that refuses with 4 passes on the first block
+// and rule that fail.
 ghost use mathlib.Core.Bool.{_&&_, true};
 ghost use mathlib.Core.List.{[]};
 ghost use mathlib.Core.Path.{_≡_};
@@ -8,37 +9,12 @@ ghost use lib.ListN.{length};
 ghost use Rattle.geometry.specs.Geometry.{imageLength, withinLimits};
 ghost use Rattle.image.specs.Words.{Shaped};
 ghost use Rattle.image.specs.WellFormed.{wellFormed};
-ghost use Rattle.shellwaltz.specs.Refusals.{numberOf, checkAnswer, readAnswer};
+ghost use Rattle.shellwaltz.specs.Refusals.{checkAnswer, readAnswer};
 ghost use Rattle.shellwaltz.specs.Calls.{countsZeroed, formatOutcome, formatted, totalsOf, reported, readBuffer, outcome, writeOutcome, written, releaseOutcome, released};
+use answers::Answer;
 use flash::Plan;
 use geometry::Geometry;
 use image::Found;
-
-// What a call answers: that it was accepted, or why it was refused. specs/Refusals.antt gives each its number in the table of refusals.
-pub enum Answer {
-    Accepted,
-    BadGeometry,
-    BadBuffer,
-    BadNumber,
-    Malformed,
-    Unmapped,
-    WornOut,
-}
-
-// An answer's number in the table of refusals.
-pub fn number(answer: Answer) -> u32
-    ensures { λ r. ⌜ r ≡ numberOf answer ⌝ }
-{
-    match answer {
-        Answer::Accepted => 0,
-        Answer::BadGeometry => 1,
-        Answer::BadBuffer => 2,
-        Answer::BadNumber => 3,
-        Answer::Malformed => 4,
-        Answer::Unmapped => 5,
-        Answer::WornOut => 6,
-    }
-}
 
 // What format, write and release report: the words programmed and the blocks erased.
 pub struct Outcome {
@@ -99,15 +75,16 @@ pub fn format(image: &mut [u32], geo: Geometry) -> Outcome
     }
 }
 
-// Whether the image is well formed. Refuses 1 and 4.
+// Whether the image is well formed, and if not, the first block and rule that fail. Refuses 1 and 4.
 pub fn check(image: &[u32], geo: Geometry) -> Answer
     ensures { λ r. ⌜ r ≡ checkAnswer geo (now (image .entry)) ⌝ }
 {
     if !fits(image, geo) {
         return Answer::BadGeometry;
     }
-    if !checking::well_formed(image, geo) {
-        return Answer::Malformed;
+    let fault = checking::first_fault(image, geo);
+    if fault.rule != 0 {
+        return Answer::Malformed(fault.block, fault.rule);
     }
     Answer::Accepted
 }
@@ -152,9 +129,10 @@ pub fn report(image: &[u32], geo: Geometry) -> Totals
             erase_sum: 0,
         };
     }
-    if !checking::well_formed(image, geo) {
+    let fault = checking::first_fault(image, geo);
+    if fault.rule != 0 {
         return Totals {
-            answer: Answer::Malformed,
+            answer: Answer::Malformed(fault.block, fault.rule),
             mapped: 0,
             free: 0,
             dead: 0,
@@ -178,8 +156,9 @@ pub fn read(image: &[u32], geo: Geometry, n: u32, buffer: &mut [u32]) -> Answer
     if geo.logical <= n {
         return Answer::BadNumber;
     }
-    if !checking::well_formed(image, geo) {
-        return Answer::Malformed;
+    let fault = checking::first_fault(image, geo);
+    if fault.rule != 0 {
+        return Answer::Malformed(fault.block, fault.rule);
     }
     match image::slots::find(image, geo, n) {
         Found::At(b, i) => {
@@ -215,8 +194,9 @@ pub fn write(image: &mut [u32], geo: Geometry, n: u32, buffer: &[u32]) -> Outcom
     if n >= geo.logical {
         return refused(Answer::BadNumber);
     }
-    if !checking::well_formed(image, geo) {
-        return refused(Answer::Malformed);
+    let fault = checking::first_fault(image, geo);
+    if fault.rule != 0 {
+        return refused(Answer::Malformed(fault.block, fault.rule));
     }
     match writing::filling::plan(image, geo) {
         Plan::Worn => refused(Answer::WornOut),
@@ -250,8 +230,9 @@ pub fn release(image: &mut [u32], geo: Geometry, n: u32) -> Outcome
     if n >= geo.logical {
         return refused(Answer::BadNumber);
     }
-    if !checking::well_formed(image, geo) {
-        return refused(Answer::Malformed);
+    let fault = checking::first_fault(image, geo);
+    if fault.rule != 0 {
+        return refused(Answer::Malformed(fault.block, fault.rule));
     }
     let words = placing::release(image, geo, n);
     if words == 0 {

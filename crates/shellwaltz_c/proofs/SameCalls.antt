@@ -12,9 +12,11 @@ use Rattle.geometry.proofs.Laws.{limits-hold}
 use Rattle.image.specs.Words.{Image}
 use Rattle.flash.specs.Steps.{wordsIn, erasuresIn}
 use Rattle.flash.proofs.Stores.{run-none}
-use Rattle.shellwaltz.specs.declared.Answer.the-variants.{BadGeometry}
+use Rattle.answers.specs.declared.Answer.{Answer}
+use Rattle.answers.specs.declared.Answer.the-variants.{BadGeometry}
+use Rattle.answers.specs.Answers.{numberOf, blockOf, ruleOf}
 use Rattle.shellwaltz.specs.declared.Outcome.{Outcome}
-use Rattle.shellwaltz.specs.Refusals.{numberOf, formatAnswer, checkAnswer, readAnswer, writeAnswer, releaseAnswer}
+use Rattle.shellwaltz.specs.Refusals.{formatAnswer, checkAnswer, readAnswer, writeAnswer, releaseAnswer}
 use Rattle.shellwaltz.specs.Calls.{formatOutcome, formatted, noTotals, reported, readBuffer, outcome, writeSteps, writeOutcome, written, releaseSteps, releaseOutcome, released}
 use Rattle.shellwaltz_c.specs.Plain.{narrowed}
 
@@ -62,7 +64,7 @@ module _ {geo : Geometry} (b s l : ℕ) (e : geo ≡ shape (narrowed b) (narrowe
 
   pub report-same : reported geo image ≡ reported (shape b s l) image
   unfolding checkAnswer reported
-  report-same = narrowing (λ x. reported x image) (noTotals geo image BadGeometry) (λ x out. rw out) b s l e
+  report-same = narrowing (λ x. reported x image) (noTotals BadGeometry) (λ x out. rw out) b s l e
 
   pub read-same :
       (n : ℕ) (buffer : List ℕ) →
@@ -104,3 +106,23 @@ parts is-number (gives, leaves-it) (same, same-image) = (
   is-number ∙ ap (λ o. numberOf (o .answer)) (gives ∙ same),
   (leaves-it ∙ same-image, (ap (λ o. o .words) (gives ∙ same), ap (λ o. o .erasures) (gives ∙ same))),
 )
+
+-- the pair that an answer names, and the one that it names for the numbers handed in
+pub names : {block rule : ℕ} {gave says : Answer} → block ≡ blockOf gave → rule ≡ ruleOf gave → gave ≡ says → (block ≡ blockOf says) × (rule ≡ ruleOf says)
+names is-block is-rule same = (is-block ∙ ap blockOf same, is-rule ∙ ap ruleOf same)
+
+-- the parts of a write or a release, and the pair
+pub parts-and-pair :
+    {number block rule : ℕ} {gave passed says : Outcome} {left passes leaves : Image} →
+    number ≡ numberOf (gave .answer) →
+    block ≡ blockOf (gave .answer) →
+    rule ≡ ruleOf (gave .answer) →
+    (gave ≡ passed) × (left ≡ passes) →
+    (passed ≡ says) × (passes ≡ leaves) →
+    (number ≡ numberOf (says .answer))
+    × ((left ≡ leaves)
+    × ((gave .words ≡ says .words)
+    × ((gave .erasures ≡ says .erasures) × ((block ≡ blockOf (says .answer)) × (rule ≡ ruleOf (says .answer))))))
+parts-and-pair is-number is-block is-rule gives same =
+    let (number, (left, (words, erasures))) = parts is-number gives same in
+    (number, (left, (words, (erasures, names is-block is-rule (ap (λ o. o .answer) (gives .0 ∙ same .0))))))

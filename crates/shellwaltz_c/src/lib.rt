@@ -1,9 +1,10 @@
-// The calls for C: plain numbers, an image or a buffer as a pointer and a length in words, counts through pointers, and the
-// answer's number in the table of refusals (FORMAT.md, Refusals). include/shellwaltz.h is their header. Each contract is that of
-// the call it passes on to, for any three 32-bit numbers as geometry.
+// The calls for C: plain numbers, an image or a buffer as a pointer and a length in words, counts and the bad block and rule (K1) through
+// pointers, and the answer's number in the table of refusals (FORMAT.md, Refusals). include/shellwaltz.h is their header. Each contract is
+// that of the call it passes on to, for any three 32-bit numbers as geometry.
 ghost use mathlib.Core.Path.{_≡_};
 ghost use Rattle.geometry.specs.Geometry.{shape};
-ghost use Rattle.shellwaltz.specs.Refusals.{numberOf, checkAnswer, readAnswer};
+ghost use Rattle.answers.specs.Answers.{numberOf, blockOf, ruleOf};
+ghost use Rattle.shellwaltz.specs.Refusals.{checkAnswer, readAnswer};
 ghost use Rattle.shellwaltz.specs.Calls.{formatted, formatOutcome, reported, readBuffer, writeOutcome, written, releaseOutcome, released};
 ghost use Rattle.shellwaltz_c.specs.Plain.{narrowed};
 use geometry::Geometry;
@@ -45,15 +46,27 @@ pub extern "C" fn shellwaltz_format(
     *words = made.words;
     *erasures = made.erasures;
     let answer = made.answer;
-    shellwaltz::number(answer)
+    answers::number(answer)
 }
 
-// Whether the image is well formed. Refuses 1 and 4.
+// Whether the image is well formed, and if not, the first block and rule that fail. Refuses 1 and 4.
 #[no_mangle]
-pub extern "C" fn shellwaltz_check(blocks: u32, sectors: u32, logical: u32, image: &[u32]) -> u32
+pub extern "C" fn shellwaltz_check(
+    blocks: u32,
+    sectors: u32,
+    logical: u32,
+    image: &[u32],
+    bad_block: &mut u32,
+    bad_rule: &mut u32,
+) -> u32
     ensures { λ r. ⌜ r ≡ numberOf (checkAnswer (shape blocks sectors logical) (now (image .entry))) ⌝ }
+    ensures { λ _. ⌜ now («bad_block» .exit) ≡ blockOf (checkAnswer (shape blocks sectors logical) (now (image .entry))) ⌝ }
+    ensures { λ _. ⌜ now («bad_rule» .exit) ≡ ruleOf (checkAnswer (shape blocks sectors logical) (now (image .entry))) ⌝ }
 {
-    shellwaltz::number(shellwaltz::check(image, geometry(blocks, sectors, logical)))
+    let found = shellwaltz::check(image, geometry(blocks, sectors, logical));
+    *bad_block = answers::bad_block(found);
+    *bad_rule = answers::bad_rule(found);
+    answers::number(found)
 }
 
 // Mapped, free and dead slots and the sum of the erase counts. Refuses 1 and 4, with four zeros.
@@ -67,12 +80,16 @@ pub extern "C" fn shellwaltz_report(
     free: &mut u32,
     dead: &mut u32,
     erase_sum: &mut u32,
+    bad_block: &mut u32,
+    bad_rule: &mut u32,
 ) -> u32
     ensures { λ r. ⌜ r ≡ numberOf (reported (shape blocks sectors logical) (now (image .entry)) .answer) ⌝ }
     ensures { λ _. ⌜ now (mapped .exit) ≡ reported (shape blocks sectors logical) (now (image .entry)) .mapped ⌝ }
     ensures { λ _. ⌜ now (free .exit) ≡ reported (shape blocks sectors logical) (now (image .entry)) .free ⌝ }
     ensures { λ _. ⌜ now (dead .exit) ≡ reported (shape blocks sectors logical) (now (image .entry)) .dead ⌝ }
     ensures { λ _. ⌜ now («erase_sum» .exit) ≡ reported (shape blocks sectors logical) (now (image .entry)) .«erase_sum» ⌝ }
+    ensures { λ _. ⌜ now («bad_block» .exit) ≡ blockOf (reported (shape blocks sectors logical) (now (image .entry)) .answer) ⌝ }
+    ensures { λ _. ⌜ now («bad_rule» .exit) ≡ ruleOf (reported (shape blocks sectors logical) (now (image .entry)) .answer) ⌝ }
 {
     let totals = shellwaltz::report(image, geometry(blocks, sectors, logical));
     *mapped = totals.mapped;
@@ -80,7 +97,9 @@ pub extern "C" fn shellwaltz_report(
     *dead = totals.dead;
     *erase_sum = totals.erase_sum;
     let answer = totals.answer;
-    shellwaltz::number(answer)
+    *bad_block = answers::bad_block(answer);
+    *bad_rule = answers::bad_rule(answer);
+    answers::number(answer)
 }
 
 // Copies the 128 words of a sector to the buffer. Refuses 1, 2, 3, 4 and 5.
@@ -92,11 +111,18 @@ pub extern "C" fn shellwaltz_read(
     image: &[u32],
     number: u32,
     buffer: &mut [u32],
+    bad_block: &mut u32,
+    bad_rule: &mut u32,
 ) -> u32
     ensures { λ r. ⌜ r ≡ numberOf (readAnswer (shape blocks sectors logical) (now (image .entry)) number (now (buffer .entry))) ⌝ }
     ensures { λ _. ⌜ now (buffer .exit) ≡ readBuffer (shape blocks sectors logical) (now (image .entry)) number (now (buffer .entry)) ⌝ }
+    ensures { λ _. ⌜ now («bad_block» .exit) ≡ blockOf (readAnswer (shape blocks sectors logical) (now (image .entry)) number (now (buffer .entry))) ⌝ }
+    ensures { λ _. ⌜ now («bad_rule» .exit) ≡ ruleOf (readAnswer (shape blocks sectors logical) (now (image .entry)) number (now (buffer .entry))) ⌝ }
 {
-    shellwaltz::number(shellwaltz::read(image, geometry(blocks, sectors, logical), number, buffer))
+    let told = shellwaltz::read(image, geometry(blocks, sectors, logical), number, buffer);
+    *bad_block = answers::bad_block(told);
+    *bad_rule = answers::bad_rule(told);
+    answers::number(told)
 }
 
 // Writes the 128 words of the buffer as a sector. Refuses 1, 2, 3, 4 and 6.
@@ -110,17 +136,23 @@ pub extern "C" fn shellwaltz_write(
     buffer: &[u32],
     words: &mut u32,
     erasures: &mut u32,
+    bad_block: &mut u32,
+    bad_rule: &mut u32,
 ) -> u32
     ensures { λ r. ⌜ r ≡ numberOf (writeOutcome (shape blocks sectors logical) (now (image .entry)) number (now (buffer .entry)) .answer) ⌝ }
     ensures { λ _. ⌜ now (image .exit) ≡ written (shape blocks sectors logical) (now (image .entry)) number (now (buffer .entry)) ⌝ }
     ensures { λ _. ⌜ now (words .exit) ≡ writeOutcome (shape blocks sectors logical) (now (image .entry)) number (now (buffer .entry)) .words ⌝ }
     ensures { λ _. ⌜ now (erasures .exit) ≡ writeOutcome (shape blocks sectors logical) (now (image .entry)) number (now (buffer .entry)) .erasures ⌝ }
+    ensures { λ _. ⌜ now («bad_block» .exit) ≡ blockOf (writeOutcome (shape blocks sectors logical) (now (image .entry)) number (now (buffer .entry)) .answer) ⌝ }
+    ensures { λ _. ⌜ now («bad_rule» .exit) ≡ ruleOf (writeOutcome (shape blocks sectors logical) (now (image .entry)) number (now (buffer .entry)) .answer) ⌝ }
 {
     let wrote = shellwaltz::write(image, geometry(blocks, sectors, logical), number, buffer);
     *words = wrote.words;
     *erasures = wrote.erasures;
     let answer = wrote.answer;
-    shellwaltz::number(answer)
+    *bad_block = answers::bad_block(answer);
+    *bad_rule = answers::bad_rule(answer);
+    answers::number(answer)
 }
 
 // Releases a sector: its number is not mapped any more. Refuses 1, 3, 4 and 5.
@@ -133,15 +165,21 @@ pub extern "C" fn shellwaltz_release(
     number: u32,
     words: &mut u32,
     erasures: &mut u32,
+    bad_block: &mut u32,
+    bad_rule: &mut u32,
 ) -> u32
     ensures { λ r. ⌜ r ≡ numberOf (releaseOutcome (shape blocks sectors logical) (now (image .entry)) number .answer) ⌝ }
     ensures { λ _. ⌜ now (image .exit) ≡ released (shape blocks sectors logical) (now (image .entry)) number ⌝ }
     ensures { λ _. ⌜ now (words .exit) ≡ releaseOutcome (shape blocks sectors logical) (now (image .entry)) number .words ⌝ }
     ensures { λ _. ⌜ now (erasures .exit) ≡ releaseOutcome (shape blocks sectors logical) (now (image .entry)) number .erasures ⌝ }
+    ensures { λ _. ⌜ now («bad_block» .exit) ≡ blockOf (releaseOutcome (shape blocks sectors logical) (now (image .entry)) number .answer) ⌝ }
+    ensures { λ _. ⌜ now («bad_rule» .exit) ≡ ruleOf (releaseOutcome (shape blocks sectors logical) (now (image .entry)) number .answer) ⌝ }
 {
     let freed = shellwaltz::release(image, geometry(blocks, sectors, logical), number);
     *words = freed.words;
     *erasures = freed.erasures;
     let answer = freed.answer;
-    shellwaltz::number(answer)
+    *bad_block = answers::bad_block(answer);
+    *bad_rule = answers::bad_rule(answer);
+    answers::number(answer)
 }

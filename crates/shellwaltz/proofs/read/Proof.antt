@@ -10,7 +10,7 @@ use Rattle.image.specs.Slots.{find}
 use Rattle.image.proofs.Finding.{found-live}
 use Rattle.shellwaltz.specs.Refusals.{firstThatApplies, row1, row5, readAnswer}
 use Rattle.shellwaltz.specs.Calls.{readBuffer}
-use Rattle.shellwaltz.proofs.CallLaws.{as-tested, shaped-left, past-four}
+use Rattle.shellwaltz.proofs.CallLaws.{as-tested, shaped-left, fault-applies, fault-passes, fault-named, past-four}
 use Rattle.shellwaltz.proofs.read.Statement.{statement}
 use Rattle.shellwaltz.proofs.read.Tie as tie
 
@@ -20,23 +20,24 @@ left1 c = as-tested (c .before .fits2 .ensures) (c .if1 .left)
 
 -- past the fourth
 left4 : (c : tie.Else4)
-    → let start = c .before .before .before .before .before .before .before .before .before in
+    → let start = c .before .before .before .before .before .before .before .before .before .before in
     let args = start .args in
     readAnswer (args .geo) (args .image .now) (args .n) (args .buffer .now) ≡ firstThatApplies (row5 (args .geo) (args .image .now) (args .n) ∷ [])
 unfolding readAnswer
 left4 c =
-    let third = c .before .before in
+    let asked = c .before .before in
+    let third = asked .before in
     let second = third .before .before in
     let args = second .before .before .before .before .before .args in
     past-four (args .geo) (args .image .now) (args .n) (args .buffer .now) (row5 (args .geo) (args .image .now) (args .n) ∷ [])
     (left1 (second .before))
     (omega (arith, second .if2 .left))
     (omega (arith, third .if3 .left))
-    (as-tested (c .before .well-formed .ensures) (c .if4 .left))
+    (fault-passes _ _ (asked .first-fault .ensures) (c .if4 .left))
 
 -- where the number was found
 found : (c : tie.After-b)
-    → let start = c .before .before .before .before .before .before .before .before .before .before .before .before in
+    → let start = c .before .before .before .before .before .before .before .before .before .before .before .before .before in
     find (start .args .geo) (start .args .image .now) (start .args .n) ≡ At (c .b .given .0 .0) (c .b .given .0 .1 .0)
 found c = sym (c .before .before .find .ensures) ∙ c .b .given .1
 
@@ -57,25 +58,27 @@ returns-3 c =
     let second = c .before .before in
     rw (left1 (second .before), eq-eqb _ _ (second .if2 .left), le-leb _ _ (c .if3 .taken)) (refl, refl)
 
-well-formed-requires : tie.Need-well-formed-requires
-well-formed-requires c κs = shaped-left _ _ (left1 (c .before .before .before))
+first-fault-requires : tie.Need-first-fault-requires
+first-fault-requires c κs = shaped-left _ _ (left1 (c .before .before .before))
 
 returns-4 : tie.Need-returns-4
 unfolding readAnswer readBuffer
 returns-4 c =
-    let third = c .before .before in
+    let asked = c .before .before in
+    let third = asked .before in
     let second = third .before .before in
+    let named = asked .first-fault .ensures in
     rw (
       left1 (second .before),
       eq-eqb _ _ (second .if2 .left),
       lt-leb _ _ (third .if3 .left),
-      as-tested (c .before .well-formed .ensures) (c .if4 .taken),
+      fault-applies _ _ named (c .if4 .taken),
     )
-    (refl, refl)
+    (fault-named _ _ named, refl)
 
 find-requires : tie.Need-find-requires
 find-requires c κs =
-    let third = c .before .before in
+    let third = c .before .before .before in
     (shaped-left _ _ (left1 (third .before .before .before)), third .if3 .left)
 
 enum-known-b : tie.Need-enum-known-b
@@ -84,7 +87,7 @@ enum-known-b c = search needs
 copy-contents-requires : tie.Need-copy-contents-requires
 copy-contents-requires c κs =
     let at = c .before .before in
-    let second = at .before .before .before .before .before .before .before in
+    let second = at .before .before .before .before .before .before .before .before in
     let live = found-live _ _ _ _ _ (found at) in
     (shaped-left _ _ (left1 (second .before)), (omega (arith, live .block), (omega (arith, live .slot-of), second .if2 .left)))
 
@@ -115,7 +118,7 @@ read-spec =
     returns
     returns-2
     returns-3
-    well-formed-requires
+    first-fault-requires
     returns-4
     find-requires
     enum-known-b

@@ -16,11 +16,11 @@ use Rattle.flash.specs.Steps.{wordsIn}
 use Rattle.flash.specs.Placing.{releasing}
 use Rattle.flash.proofs.Counts.{releasing-words, releasing-erasures}
 use Rattle.flash.proofs.Stores.{run-none}
-use Rattle.shellwaltz.specs.declared.Answer.{Answer}
+use Rattle.answers.specs.declared.Answer.{Answer}
 use Rattle.shellwaltz.specs.declared.Outcome.{Outcome}
 use Rattle.shellwaltz.specs.Refusals.{row1, row4, releaseRows, releaseAnswer}
 use Rattle.shellwaltz.specs.Calls.{outcome, releaseSteps, releaseOutcome, released}
-use Rattle.shellwaltz.proofs.CallLaws.{as-tested, shaped-left}
+use Rattle.shellwaltz.proofs.CallLaws.{as-tested, shaped-left, fault-applies, fault-passes, fault-named}
 use Rattle.shellwaltz.proofs.Rows.{FirstIs, here, later}
 use Rattle.shellwaltz.proofs.Changing.{carried-out, refused-by}
 use Rattle.shellwaltz.proofs.release.Statement.{statement}
@@ -54,8 +54,8 @@ refuses geo image n = refused-by geo image (releaseRows geo image n) (releasing 
 left1 : (c : tie.Else1) → let start = c .before .before .before .before in row1 (start .args .geo) (start .args .image .now) .applies ≡ false
 left1 c = as-tested (c .before .fits2 .ensures) (c .if1 .left)
 
-left3 : (c : tie.Else3) → let start = c .before .before .before .before .before .before .before .before .before in row4 (start .args .geo) (start .args .image .now) .applies ≡ false
-left3 c = as-tested (c .before .well-formed .ensures) (c .if3 .left)
+left3 : (c : tie.Else3) → let start = c .before .before .before .before .before .before .before .before .before .before in row4 (start .args .geo) (start .args .image .now) .applies ≡ false
+left3 c = fault-passes _ _ (c .before .before .first-fault .ensures) (c .if3 .left)
 
 fits-requires : tie.Need-fits-requires
 fits-requires c κs = search needs
@@ -80,8 +80,8 @@ returns-2 : tie.Need-returns-2
 returns-2 c =
     refuses _ _ _ (later (left1 (c .before .before .before)) (here (le-leb _ _ (c .before .if2 .taken)))) (c .refused2 .ensures)
 
-well-formed-requires : tie.Need-well-formed-requires
-well-formed-requires c κs = shaped-left _ _ (left1 (c .before .before .before))
+first-fault-requires : tie.Need-first-fault-requires
+first-fault-requires c κs = shaped-left _ _ (left1 (c .before .before .before))
 
 refused-requires-3 : tie.Need-refused-requires-3
 refused-requires-3 c κs = search needs
@@ -91,16 +91,18 @@ same-length-3 c = search needs
 
 returns-3 : tie.Need-returns-3
 returns-3 c =
-    let second = c .before .before .before .before in
+    let asked = c .before .before .before in
+    let second = asked .before .before in
+    let named = asked .first-fault .ensures in
     refuses _ _ _
     (later (left1 (second .before .before))
     (later (lt-leb _ _ (second .if2 .left))
-    (here (as-tested (c .before .before .well-formed .ensures) (c .before .if3 .taken)))))
-    (c .refused3 .ensures)
+    (here (fault-applies _ _ named (c .before .if3 .taken)))))
+    (c .refused3 .ensures ∙ ap (λ a. outcome a []) (fault-named _ _ named))
 
 release-requires : tie.Need-release-requires
 release-requires c κs =
-    let second = c .before .before .before .before in
+    let second = c .before .before .before .before .before in
     (shaped-left _ _ (left1 (second .before .before)), second .if2 .left)
 
 refused-requires-4 : tie.Need-refused-requires-4
@@ -112,10 +114,10 @@ same-length-4 c = search needs
 returns-4 : tie.Need-returns-4
 unfolding releasing
 returns-4 c =
-    let start = c .before .before .before .before .before .before .before .before .before .before .before .before .before .before .before in
+    let start = c .before .before .before .before .before .before .before .before .before .before .before .before .before .before .before .before in
     let done = c .before .before .before .before .release in
     let third = c .before .before .before .before .before .before in
-    let second = third .before .before .before in
+    let second = third .before .before .before .before in
     let none =
     nothing-found (start .args .geo) (start .args .image .now) (start .args .n) (done .result) (done .ensures .0)
     (omega (arith, c .before .if4 .taken)) in
@@ -134,10 +136,10 @@ same-length-5 c = search needs
 returns-5 : tie.Need-returns-5
 unfolding releaseAnswer releaseSteps
 returns-5 c =
-    let start = c .before .before .before .before .before .before .before .before .before .before .before .before .before .before in
+    let start = c .before .before .before .before .before .before .before .before .before .before .before .before .before .before .before in
     let done = c .before .before .before .release in
     let third = c .before .before .before .before .before in
-    let second = third .before .before .before in
+    let second = third .before .before .before .before in
     let found = something-found (start .args .geo) (start .args .image .now) (start .args .n) (done .result) (done .ensures .0) (c .if4 .left) in
     carried-out _ _ _ _ (done .result) _ (done .last .0)
     (rw (left1 (second .before .before), lt-leb _ _ (second .if2 .left), left3 third, found))
@@ -156,7 +158,7 @@ release-spec =
     refused-requires-2
     same-length-2
     returns-2
-    well-formed-requires
+    first-fault-requires
     refused-requires-3
     same-length-3
     returns-3

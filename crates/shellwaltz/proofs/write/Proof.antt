@@ -19,11 +19,11 @@ use Rattle.flash.specs.Writing.{reclaimingFirst, writing}
 use Rattle.flash.proofs.Counts.{filling-erases-nothing}
 use Rattle.flash.proofs.Planned.{plan-says, fill-says, worn-says, writing-fills, writing-reclaims}
 use Rattle.flash.proofs.Written.{victim-in, victim-reclaimable, reclaiming-once}
-use Rattle.shellwaltz.specs.declared.Answer.{Answer}
+use Rattle.answers.specs.declared.Answer.{Answer}
 use Rattle.shellwaltz.specs.declared.Outcome.{Outcome}
 use Rattle.shellwaltz.specs.Refusals.{firstThatApplies, row1, row6, writeRows, writeAnswer}
 use Rattle.shellwaltz.specs.Calls.{outcome, writeSteps, writeOutcome, written}
-use Rattle.shellwaltz.proofs.CallLaws.{as-tested, shaped-left, past-four, formed-ready}
+use Rattle.shellwaltz.proofs.CallLaws.{as-tested, shaped-left, fault-applies, fault-passes, fault-named, past-four, formed-ready}
 use Rattle.shellwaltz.proofs.Rows.{FirstIs, here, later}
 use Rattle.shellwaltz.proofs.Changing.{left-alone, carried-out, refused-by}
 use Rattle.shellwaltz.proofs.write.Statement.{statement}
@@ -51,14 +51,15 @@ record Handed (geo : Geometry) (image : Image) (n : ℕ) (buffer : List ℕ) : T
   answer : writeAnswer geo image n buffer ≡ firstThatApplies (row6 geo image ∷ [])
 
 handed : (c : tie.Else4)
-    → let start = c .before .before .before .before .before .before .before .before .before .before .before in
+    → let start = c .before .before .before .before .before .before .before .before .before .before .before .before in
     Handed (start .args .geo) (start .args .image .now) (start .args .n) (start .args .buffer .now)
 unfolding writeAnswer
 handed c =
-    let third = c .before .before .before in
+    let asked = c .before .before in
+    let third = asked .before .before in
     let second = third .before .before in
     let args = second .before .before .before .before .before .before .args in
-    let formed = as-tested (c .before .well-formed .ensures) (c .if4 .left) in
+    let formed = fault-passes _ _ (asked .first-fault .ensures) (c .if4 .left) in
     record {
       shaped = shaped-left _ _ (left1 (second .before));
       long = sym (second .if2 .left);
@@ -110,8 +111,8 @@ returns-3 c =
     (here (le-leb _ _ (c .before .if3 .taken)))))
     (c .refused3 .ensures)
 
-well-formed-requires : tie.Need-well-formed-requires
-well-formed-requires c κs = shaped-left _ _ (left1 (c .before .before .before .before))
+first-fault-requires : tie.Need-first-fault-requires
+first-fault-requires c κs = shaped-left _ _ (left1 (c .before .before .before .before))
 
 refused-requires-4 : tie.Need-refused-requires-4
 refused-requires-4 c κs = search needs
@@ -121,20 +122,22 @@ same-length-4 c = search needs
 
 returns-4 : tie.Need-returns-4
 returns-4 c =
-    let third = c .before .before .before .before in
+    let asked = c .before .before .before in
+    let third = asked .before .before in
     let second = third .before .before in
+    let named = asked .first-fault .ensures in
     refuses _ _ _ _
     (later (left1 (second .before))
     (later (ap not (eq-eqb _ _ (sym (second .if2 .left))))
     (later (lt-leb _ _ (third .if3 .left))
-    (here (as-tested (c .before .before .well-formed .ensures) (c .before .if4 .taken))))))
-    (c .refused4 .ensures)
+    (here (fault-applies _ _ named (c .before .if4 .taken))))))
+    (c .refused4 .ensures ∙ ap (λ a. outcome a []) (fault-named _ _ named))
 
 plan-requires : tie.Need-plan-requires
 plan-requires c κs =
     let h = handed (c .before) in
-    let start = c .before .before .before .before .before .before .before .before .before .before .before .before in
-    let words : Words32 (start .args .image .now) = record { small = λ q. c .before .before .before .before .before .before .before .before .before .before .before .slice-known .given q .fits } in
+    let start = c .before .before .before .before .before .before .before .before .before .before .before .before .before in
+    let words : Words32 (start .args .image .now) = record { small = λ q. c .before .before .before .before .before .before .before .before .before .before .before .before .slice-known .given q .fits } in
     let ready = formed-ready (start .args .geo) (start .args .image .now) (h .shaped) words (h .formed) .0 in
     (h .shaped, (sound-maps _ _ (ready .sound), λ must. victim-in _ _ ready must))
 
@@ -149,9 +152,9 @@ enum-told-2 c = search needs
 
 fill-requires : tie.Need-fill-requires
 fill-requires c κs =
-    let start = c .before .before .before .before .before .before .before .before .before .before .before .before .before .before .before .before in
+    let start = c .before .before .before .before .before .before .before .before .before .before .before .before .before .before .before .before .before in
     let h = handed (c .before .before .before .before .before) in
-    let words : Words32 (start .args .image .now) = record { small = λ q. c .before .before .before .before .before .before .before .before .before .before .before .before .before .before .before .slice-known .given q .fits } in
+    let words : Words32 (start .args .image .now) = record { small = λ q. c .before .before .before .before .before .before .before .before .before .before .before .before .before .before .before .before .slice-known .given q .fits } in
     let ready = formed-ready (start .args .geo) (start .args .image .now) (h .shaped) words (h .formed) in
     (h .shaped, (sound-maps _ _ (ready .0 .sound), (ready .1, (omega (arith, h .number), h .long))))
 
@@ -170,7 +173,7 @@ same-length-5 c = search needs
 returns-5 : tie.Need-returns-5
 unfolding writeSteps
 returns-5 c =
-    let start = c .before .before .before .before .before .before .before .before .before .before .before .before .before .before .before .before in
+    let start = c .before .before .before .before .before .before .before .before .before .before .before .before .before .before .before .before .before in
     let h = handed (c .before .before .before .before .before) in
     let worn = worn-says (start .args .geo) (start .args .image .now) (sym (c .before .before .before .plan .ensures) ∙ c .before .enum-told .given .1) in
     left-alone _ _ _ _ (h .answer ∙ rw worn) (omega arith) (c .refused5 .ensures)
@@ -181,7 +184,7 @@ same-length-6 c = search needs
 returns-6 : tie.Need-returns-6
 unfolding writeSteps
 returns-6 c =
-    let start = c .before .before .before .before .before .before .before .before .before .before .before .before .before .before .before .before .before .before .before in
+    let start = c .before .before .before .before .before .before .before .before .before .before .before .before .before .before .before .before .before .before .before .before in
     let geo = start .args .geo in
     let image = start .args .image .now in
     let h = handed (c .before .before .before .before .before .before .before .before) in
@@ -200,15 +203,15 @@ same-length-7 c = search needs
 returns-7 : tie.Need-returns-7
 unfolding writeSteps
 returns-7 c =
-    let start = c .before .before .before .before .before .before .before .before .before .before .before .before .before .before .before .before .before .before .before .before in
+    let start = c .before .before .before .before .before .before .before .before .before .before .before .before .before .before .before .before .before .before .before .before .before in
     let geo = start .args .geo in
     let image = start .args .image .now in
     let h = handed (c .before .before .before .before .before .before .before .before .before) in
     let done = c .before .before .reclaim-and-fill in
     let v = c .before .before .before .before .before .v .given .0 .0 in
     let says = plan-says geo image v (sym (c .before .before .before .before .before .before .before .plan .ensures) ∙ c .before .before .before .before .before .v .given .1) in
-    let words : Words32 image = record { small = λ q. c .before .before .before .before .before .before .before .before .before .before .before .before .before .before .before .before .before .before .before .slice-known .given q .fits } in
-    let handed-words : Words32 (start .args .buffer .now) = record { small = λ q. c .before .before .before .before .before .before .before .before .before .before .before .before .before .before .before .before .before .before .shared-slice-known .given q .fits } in
+    let words : Words32 image = record { small = λ q. c .before .before .before .before .before .before .before .before .before .before .before .before .before .before .before .before .before .before .before .before .slice-known .given q .fits } in
+    let handed-words : Words32 (start .args .buffer .now) = record { small = λ q. c .before .before .before .before .before .before .before .before .before .before .before .before .before .before .before .before .before .before .before .shared-slice-known .given q .fits } in
     let ready = formed-ready geo image (h .shaped) words (h .formed) .0 in
     let steps =
     writing-reclaims geo image (says .0) (start .args .n) (start .args .buffer .now)
@@ -236,7 +239,7 @@ write-spec =
     refused-requires-3
     same-length-3
     returns-3
-    well-formed-requires
+    first-fault-requires
     refused-requires-4
     same-length-4
     returns-4

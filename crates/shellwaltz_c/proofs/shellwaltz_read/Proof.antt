@@ -1,8 +1,8 @@
 -- `shellwaltz_c::shellwaltz_read` meets its contract: it passes on what the call answers and leaves.
 use mathlib.Core.Path.{ap, _∙_}
 use borrow.Author.Needs.{needs}
-use Rattle.shellwaltz.specs.Refusals.{numberOf}
-use Rattle.shellwaltz_c.proofs.SameCalls.{read-same}
+use Rattle.answers.specs.Answers.{numberOf}
+use Rattle.shellwaltz_c.proofs.SameCalls.{read-same, names}
 use Rattle.shellwaltz_c.proofs.shellwaltz_read.Statement.{statement}
 use Rattle.shellwaltz_c.proofs.shellwaltz_read.Tie as tie
 
@@ -12,6 +12,12 @@ geometry-requires c κs = search needs
 read-requires : tie.Need-read-requires
 read-requires c κs = search needs
 
+bad-block-requires : tie.Need-bad-block-requires
+bad-block-requires c κs = search needs
+
+bad-rule-requires : tie.Need-bad-rule-requires
+bad-rule-requires c κs = search needs
+
 number-requires : tie.Need-number-requires
 number-requires c κs = search needs
 
@@ -20,9 +26,13 @@ same-length c = search needs
 
 returns : tie.Need-returns
 returns c =
-    let called = c .before .before .before in
+    let named = c .before in
+    let called = named .before .before .before .before in
     let same = read-same _ _ _ (called .before .before .geometry .ensures) _ _ _ in
-    (c .number .ensures ∙ ap numberOf (called .read .ensures .0 ∙ same .0), called .read .ensures .1 ∙ same .1)
+    let answer = called .read .ensures .0 ∙ same .0 in (
+      c .number .ensures ∙ ap numberOf answer,
+      (called .read .ensures .1 ∙ same .1, names (named .before .bad-block .ensures) (named .bad-rule .ensures) answer),
+    )
 
 pub shellwaltz-read-spec : {M : Type 1} → statement M
-shellwaltz-read-spec = tie.close (tie.spec geometry-requires read-requires number-requires same-length returns)
+shellwaltz-read-spec = tie.close (tie.spec geometry-requires read-requires bad-block-requires bad-rule-requires number-requires same-length returns)

@@ -1,22 +1,27 @@
--- `checking::well_formed` meets its contract: the blocks passed are sound and the marks know their numbers; a block that is not
+-- `checking::first_fault` meets its contract: the blocks passed are sound and the marks know their numbers; a block that is not
 -- decides, and at the end R6 does.
 use mathlib.Core.Path.{_≡_, refl, sym, ap, _∙_}
-use mathlib.Core.Bool.{true}
+use mathlib.Core.Bool.{true, not}
 use Prim.Native.Nat.{_-_, _≤_}
 use native.Mathlib.Numerals.{add-one}
 use native.Mathlib.Omega.{arith}
 use borrow.Author.Needs.{needs}
 use borrow.Author.Tests.{eq-eqb, ne-eqb}
-use lib.Dec.{eqb, ltb}
+use lib.Dec.{eqb}
 use Rattle.ranges.specs.Range.{allBelow}
+use Rattle.ranges.proofs.Tests.{all-at}
+use Rattle.ranges.proofs.Sums.{any-count}
 use Rattle.geometry.proofs.Laws.{logical-small}
 use Rattle.checking.specs.Marks.{Marks}
-use Rattle.image.specs.WellFormed.{soundBlock, sound}
+use Rattle.image.specs.Blocks.{blank}
+use Rattle.image.specs.WellFormed.{soundBlock, sound, R6}
+use Rattle.image.specs.Faults.{pair}
 use Rattle.image.proofs.Facts.{sound-facts, sound-maps}
+use Rattle.image.proofs.Faults.{first-broken, fault-here, fault-last, fault-none}
 use Rattle.rules.proofs.RuleLaws.{all-more}
-use Rattle.checking.proofs.CheckLaws.{sound-broken, unsound-fails, sound-decides, marks-start}
-use Rattle.checking.proofs.well_formed.Statement.{statement}
-use Rattle.checking.proofs.well_formed.Tie as tie
+use Rattle.checking.proofs.CheckLaws.{marks-start}
+use Rattle.checking.proofs.first_fault.Statement.{statement}
+use Rattle.checking.proofs.first_fault.Tie as tie
 
 abbrev Inv-loop : tie.InvT-loop
 Inv-loop image geo blocks marks₀ b₀ marks b = (b ≤ blocks) × Marks geo image b 0 marks × (allBelow b (soundBlock geo image) ≡ true)
@@ -41,17 +46,20 @@ broken-rule-requires c κs =
     let turn = c .before .before in
     (turn .before .before .before .pre, (c .before .loop-test .taken, turn .loop .inv .1))
 
--- the block of this turn is sound exactly where the answer is 0
-sound-is : (c : tie.After-broken-rule Inv-loop μ-loop)
-    → let turn = c .before .before .before in
-    let start = turn .before .before .before in
-    soundBlock (start .args .geo) (start .args .image .now) (turn .loop .b) ≡ eqb (c .broken-rule .result) 0
-sound-is c = sound-broken _ _ _ ∙ ap (λ r. eqb r 0) (sym (c .broken-rule .ensures .0))
+cast-block : tie.Need-cast-block Inv-loop μ-loop
+cast-block c =
+    let turn = c .before .before .before .before in
+    omega (arith, turn .loop-test .taken, turn .before .before .before .before .pre .limits .blocks-high)
 
 returns : tie.Need-returns Inv-loop μ-loop
 returns c =
     let here = c .before .before in
-    sym (unsound-fails _ _ _ (here .before .before .loop-test .taken) (sound-is here ∙ ne-eqb _ 0 (c .if1 .taken)))
+    let turn = here .before .before in
+    let named = here .broken-rule .ensures .0 in
+    ap (pair (turn .before .loop .b)) named
+    ∙ sym
+    (fault-here _ _ _ (turn .loop-test .taken) (all-at (turn .before .loop .b) _ (turn .before .loop .inv .2))
+    (λ z. c .if1 .taken (named ∙ z)))
 
 add-b : tie.Need-add-b Inv-loop μ-loop
 add-b c = search needs
@@ -62,10 +70,11 @@ loop-less c = search needs
 loop-again : tie.Need-loop-again Inv-loop μ-loop
 loop-again c =
     let here = c .before .before in
-    let loop = here .before .before .before .loop in (
+    let loop = here .before .before .before .loop in
+    let kept = here .broken-rule .ensures in (
       omega arith,
-      rw add-one (here .broken-rule .ensures .1 (c .if1 .left)),
-      all-more (loop .b) _ (loop .inv .2) (sound-is here ∙ eq-eqb _ 0 (c .if1 .left)),
+      rw add-one (kept .1 (c .if1 .left)),
+      all-more (loop .b) _ (loop .inv .2) (first-broken _ _ _ .all ∙ eq-eqb _ 0 (sym (kept .0) ∙ c .if1 .left)),
     )
 
 -- after the last block all are sound
@@ -78,11 +87,31 @@ all-sound c =
 count-blank-requires : tie.Need-count-blank-requires Inv-loop μ-loop
 count-blank-requires c κs = (c .before .before .before .before .pre, sound-maps _ _ (sound-facts _ _ (all-sound c)))
 
-returns-2 : tie.Need-returns-2 Inv-loop μ-loop
-returns-2 c = ap (ltb 0) (c .count-blank .ensures) ∙ sym (sound-decides _ _ (all-sound (c .before)))
+cast-past-all : tie.Need-cast-past-all Inv-loop μ-loop
+cast-past-all c = search needs
 
-pub well-formed-spec : {M : Type 1} → statement M
-well-formed-spec =
+-- and R6 is whether a block is blank
+blank-decides : (c : tie.After-count-blank Inv-loop μ-loop)
+    → let start = c .before .before .before .before .before in
+    R6 (start .args .geo) (start .args .image .now) ≡ not (eqb (c .count-blank .result) 0)
+unfolding R6
+blank-decides c =
+    let start = c .before .before .before .before .before in
+    any-count (start .args .geo .blocks) (blank (start .args .geo) (start .args .image .now))
+    ∙ ap (λ n. not (eqb n 0)) (sym (c .count-blank .ensures))
+
+returns-2 : tie.Need-returns-2 Inv-loop μ-loop
+returns-2 c =
+    let counted = c .before .before in
+    sym (fault-last _ _ (all-sound (counted .before)) (blank-decides counted ∙ ap not (eq-eqb _ 0 (c .before .if2 .taken))))
+
+returns-3 : tie.Need-returns-3 Inv-loop μ-loop
+returns-3 c =
+    let counted = c .before in
+    sym (fault-none _ _ (all-sound (counted .before)) (blank-decides counted ∙ ap not (ne-eqb _ 0 (c .if2 .left))))
+
+pub first-fault-spec : {M : Type 1} → statement M
+first-fault-spec =
     tie.close
     (tie.spec
     Inv-loop
@@ -91,9 +120,12 @@ well-formed-spec =
     loop-holds
     slice-aggregate-broken-rule
     broken-rule-requires
+    cast-block
     returns
     add-b
     loop-less
     loop-again
     count-blank-requires
-    returns-2)
+    cast-past-all
+    returns-2
+    returns-3)

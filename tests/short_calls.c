@@ -1,0 +1,119 @@
+/* The short calls of include/shellwaltz.h only pass on: each gives, changes and leaves what the proved function of the same name does. Tried
+ * on images that are sound, bad in a block and bad as a whole, with numbers in and out of range, and with geometries that are refused. And
+ * the sentences for logs: each number has one of its own, and every other number the same one. */
+#include <stdio.h>
+#include <stdlib.h>
+#include <string.h>
+
+#include "../include/shellwaltz.h"
+
+enum { BLOCKS = 3, SECTORS = 3, LOGICAL = 3, WORDS = BLOCKS * SECTORS * 128, NUMBERS = 5, IMAGES = 4, CALLS = 6, SHAPES = 3 };
+
+/* What a call leaves: its image, its buffer, and what it gives, in the order of struct shellwaltz_totals or of struct shellwaltz_result. */
+struct left {
+    uint32_t image[WORDS], buffer[SHELLWALTZ_SECTOR_WORDS], given[7];
+};
+
+static unsigned compared, answers_seen[7];
+
+/* Sound; block 1 at fault; no block blank; and sound with number 2 stored. */
+static void make_image(int which, uint32_t *image)
+{
+    uint32_t words, erasures, block, rule, sector[SHELLWALTZ_SECTOR_WORDS] = {1, 2, 3};
+    shellwaltz_format(BLOCKS, SECTORS, LOGICAL, image, WORDS, &words, &erasures);
+    if (which == 1)
+        image[SECTORS * 128] = SHELLWALTZ_CEILING + 1;
+    for (uint32_t b = 0; which == 2 && b < BLOCKS; b++) {
+        image[b * SECTORS * 128 + 3] = 0xFFFFFFFEu;
+        image[b * SECTORS * 128 + 4] = 0;
+    }
+    if (which == 3)
+        shellwaltz_write(BLOCKS, SECTORS, LOGICAL, image, WORDS, 2, sector, SHELLWALTZ_SECTOR_WORDS, &words, &erasures, &block, &rule);
+}
+
+static void proved(int call, struct shellwaltz_part p, uint32_t n, struct left *l)
+{
+    uint32_t *g = l->given, *b = l->buffer;
+    switch (call) {
+    case 0: g[0] = shellwaltz_format(p.blocks, p.sectors, p.logical, p.image, p.image_words, g + 1, g + 2); break;
+    case 1: g[0] = shellwaltz_check(p.blocks, p.sectors, p.logical, p.image, p.image_words, g + 3, g + 4); break;
+    case 2: g[0] = shellwaltz_report(p.blocks, p.sectors, p.logical, p.image, p.image_words, g + 1, g + 2, g + 3, g + 4, g + 5, g + 6); break;
+    case 3: g[0] = shellwaltz_read(p.blocks, p.sectors, p.logical, p.image, p.image_words, n, b, SHELLWALTZ_SECTOR_WORDS, g + 3, g + 4); break;
+    case 4:
+        g[0] = shellwaltz_write(p.blocks, p.sectors, p.logical, p.image, p.image_words, n, b, SHELLWALTZ_SECTOR_WORDS, g + 1, g + 2, g + 3, g + 4);
+        break;
+    default: g[0] = shellwaltz_release(p.blocks, p.sectors, p.logical, p.image, p.image_words, n, g + 1, g + 2, g + 3, g + 4); break;
+    }
+}
+
+static void by_the_short_call(int call, struct shellwaltz_part p, uint32_t n, struct left *l)
+{
+    struct shellwaltz_result r = {0, 0, 0, 0, 0};
+    struct shellwaltz_totals t = {0, 0, 0, 0, 0, 0, 0};
+    switch (call) {
+    case 0: r = shellwaltz_part_format(&p); break;
+    case 1: r = shellwaltz_part_check(&p); break;
+    case 2: t = shellwaltz_part_report(&p); break;
+    case 3: r = shellwaltz_part_read(&p, n, l->buffer); break;
+    case 4: r = shellwaltz_part_write(&p, n, l->buffer); break;
+    default: r = shellwaltz_part_release(&p, n); break;
+    }
+    uint32_t result[7] = {r.answer, r.words, r.erasures, r.bad_block, r.bad_rule};
+    uint32_t totals[7] = {t.answer, t.mapped, t.free_slots, t.dead, t.erase_sum, t.bad_block, t.bad_rule};
+    memcpy(l->given, call == 2 ? totals : result, sizeof l->given);
+}
+
+static void compare(int call, int which, int shape, uint32_t n)
+{
+    static struct left ours, theirs;
+    memset(&ours, 0, sizeof ours);
+    make_image(which, ours.image);
+    ours.buffer[5] = 77;
+    theirs = ours;
+    struct shellwaltz_part p = {BLOCKS, SECTORS, LOGICAL, ours.image, WORDS};
+    if (shape == 1)
+        p.logical = 0;
+    if (shape == 2)
+        p.image_words = WORDS - 1;
+    by_the_short_call(call, p, n, &ours);
+    p.image = theirs.image;
+    proved(call, p, n, &theirs);
+    if (memcmp(&ours, &theirs, sizeof ours) != 0) {
+        printf("short calls: call %d on image %d, geometry %d, number %u differs\n", call, which, shape, (unsigned)n);
+        exit(1);
+    }
+    compared++;
+    answers_seen[ours.given[0]]++;
+}
+
+/* Each of 0 to `most` has a sentence that no other number has, and those above it share one. */
+static void sentences(const char *(*meaning)(uint32_t), uint32_t most)
+{
+    for (uint32_t i = 0; i <= most + 1; i++)
+        for (uint32_t j = 0; j < i; j++)
+            if (strcmp(meaning(i), meaning(j)) == 0 || meaning(i)[0] == '\0') {
+                printf("short calls: %u and %u have one sentence\n", (unsigned)i, (unsigned)j);
+                exit(1);
+            }
+    if (strcmp(meaning(most + 1), meaning(0xFFFFFFFFu)) != 0) {
+        printf("short calls: two sentences for what is no number of the table\n");
+        exit(1);
+    }
+}
+
+int main(void)
+{
+    for (int call = 0; call < CALLS; call++)
+        for (int which = 0; which < IMAGES; which++)
+            for (int shape = 0; shape < SHAPES; shape++)
+                for (uint32_t n = 0; n < NUMBERS; n++)
+                    compare(call, which, shape, n);
+    if (!answers_seen[0] || !answers_seen[1] || !answers_seen[3] || !answers_seen[4] || !answers_seen[5]) {
+        printf("short calls: an answer never came about\n");
+        return 1;
+    }
+    sentences(shellwaltz_meaning, 6);
+    sentences(shellwaltz_rule_meaning, 7);
+    printf("short calls: %u calls give and leave what the proved functions do; a sentence for each answer and rule\n", compared);
+    return 0;
+}
