@@ -18,7 +18,7 @@ static void fail(const char *what)
 
 static inline struct shellwaltz_part part_of(struct geometry g, uint32_t *image)
 {
-    return (struct shellwaltz_part){g.blocks, g.sectors, g.logical, image, words_of(g)};
+    return (struct shellwaltz_part)SHELLWALTZ_PART(g.blocks, g.sectors, g.logical, image);
 }
 
 /* An image that is half full: half of the numbers are written by turns until half of the slots are used. */

@@ -1,5 +1,5 @@
 /* A meter's settings in sector 7 of a small image: formats, writes, reads back and prints; and what a log says of a damaged part. Built by
- * tests/c-programs against libshellwaltz_c.a, as C11 and as C++; what it must print is tests/settings.expected. */
+ * tests/c-programs against libshellwaltz_c.a, and compiled as C++ too; what it must print is tests/settings.expected. */
 #include <stdio.h>
 
 #include "shellwaltz.h"
@@ -8,7 +8,7 @@ enum { BLOCKS = 4, SECTORS = 8, LOGICAL = 16, SETTINGS = 7 };
 
 /* The mirror of the part. A driver loads it at the start, and carries over to the part what each accepted call changed: docs/USING.md. */
 static uint32_t image[SHELLWALTZ_IMAGE_WORDS(BLOCKS, SECTORS)];
-static const struct shellwaltz_part meter = {BLOCKS, SECTORS, LOGICAL, image, SHELLWALTZ_IMAGE_WORDS(BLOCKS, SECTORS)};
+static const struct shellwaltz_part meter = SHELLWALTZ_PART(BLOCKS, SECTORS, LOGICAL, image);
 
 static void show(const char *what, struct shellwaltz_result r)
 {

@@ -24,7 +24,7 @@
  * some block is blank, is the whole image's: it is named last, with `blocks` as the bad block. With every other answer, *bad_block and
  * *bad_rule are 0.
  *
- * Each call's contract is proved for every input: crates/shellwaltz_c/src/lib.rt has it as equations. */
+ * The contract of each function of the first layer is proved for every input: crates/shellwaltz_c/src/lib.rt has it as equations. */
 #ifndef SHELLWALTZ_H
 #define SHELLWALTZ_H
 
@@ -90,12 +90,15 @@ uint32_t shellwaltz_release(uint32_t blocks, uint32_t sectors, uint32_t logical,
 /* ---- The short calls: each passes the part and its own arguments on to the proved function of the same name, and nothing else. A buffer
  * is always 128 words here, so no call of these is refused with 2. */
 
-/* A part: its geometry, and the image that mirrors it. */
+/* A part: its geometry, and the image that mirrors it. SHELLWALTZ_PART initialises one whose image has the words that its geometry says,
+ * in C and in C++; later versions may add fields, which it then sets as well. */
 struct shellwaltz_part {
     uint32_t blocks, sectors, logical;
     uint32_t *image;
     size_t image_words;
 };
+
+#define SHELLWALTZ_PART(blocks, sectors, logical, image) {(blocks), (sectors), (logical), (image), SHELLWALTZ_IMAGE_WORDS(blocks, sectors)}
 
 /* What a call gave. `words` and `erasures` are 0 where the call has no such count; `bad_block` and `bad_rule` are those of
  * SHELLWALTZ_MALFORMED, and otherwise 0. */

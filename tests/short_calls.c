@@ -16,7 +16,7 @@ struct left {
 
 static unsigned compared, answers_seen[7];
 
-/* Sound; block 1 at fault; no block blank; and sound with number 2 stored. */
+/* Sound and fresh; block 1 at fault; no block blank; and sound with number 2 stored twice and a count, so that no total is 0. */
 static void make_image(int which, uint32_t *image)
 {
     uint32_t words, erasures, block, rule, sector[SHELLWALTZ_SECTOR_WORDS] = {1, 2, 3};
@@ -27,8 +27,10 @@ static void make_image(int which, uint32_t *image)
         image[b * SECTORS * 128 + 3] = 0xFFFFFFFEu;
         image[b * SECTORS * 128 + 4] = 0;
     }
-    if (which == 3)
+    for (int time = 0; which == 3 && time < 2; time++) {
         shellwaltz_write(BLOCKS, SECTORS, LOGICAL, image, WORDS, 2, sector, SHELLWALTZ_SECTOR_WORDS, &words, &erasures, &block, &rule);
+        image[2 * SECTORS * 128] = 7;
+    }
 }
 
 static void proved(int call, struct shellwaltz_part p, uint32_t n, struct left *l)
@@ -70,7 +72,7 @@ static void compare(int call, int which, int shape, uint32_t n)
     make_image(which, ours.image);
     ours.buffer[5] = 77;
     theirs = ours;
-    struct shellwaltz_part p = {BLOCKS, SECTORS, LOGICAL, ours.image, WORDS};
+    struct shellwaltz_part p = SHELLWALTZ_PART(BLOCKS, SECTORS, LOGICAL, ours.image);
     if (shape == 1)
         p.logical = 0;
     if (shape == 2)

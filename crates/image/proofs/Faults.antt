@@ -1,14 +1,14 @@
 -- The first failing pair is the one that its laws describe: each statement of specs/Faults.antt, and what the check goes by. Assumes nothing.
 use mathlib.Core.Path.{_≡_, refl, sym, ap, _∙_}
 use mathlib.Core.Logic.{_≢_, _↔_, _⊎_, inl, inr, ⊎-elim}
-use mathlib.Core.Bool.{Bool, true, false, not, cond, Bool·beq, _&&_, true≢false, false≢true}
+use mathlib.Core.Bool.{Bool, true, false, not, cond, Bool·beq, _&&_, _||_, or-true, true≢false, false≢true}
 use Prim.Native.Nat.{ℕ, _<_, _≤_}
 use native.Mathlib.Omega.{arith}
 use lib.Dec.{eqb, leb}
 use lib.ListN.{List·getD-eq-default}
 use borrow.Author.Tests.{eq-eqb, ne-eqb, lt-ltb, le-ltb, leb-true, not-true, not-false}
 use Rattle.ranges.specs.Range.{_implies_, allBelow, anyBelow}
-use Rattle.ranges.proofs.Tests.{both-pass, all-at, all-of, not-all, all-fails, any-at, either-passes, passes-or-fails}
+use Rattle.ranges.proofs.Tests.{both-pass, all-at, all-of, not-all, all-fails, any-at, any-of, either-passes, passes-or-fails}
 use Rattle.ranges.proofs.Searches.{first-is, first-before, best-passes, best-none, best-some}
 use Rattle.geometry.specs.declared.Geometry.{Geometry}
 use Rattle.geometry.specs.Geometry.{d}
@@ -16,11 +16,11 @@ use Rattle.image.specs.declared.Fault.{Fault}
 use Rattle.image.specs.declared.Slot.{Slot}
 use Rattle.image.specs.declared.Slot.the-variants.{Free, Live, Dead, Faulty}
 use Rattle.image.specs.Words.{Image}
-use Rattle.image.specs.Slots.{slot, isLiveWith, liveIn}
+use Rattle.image.specs.Slots.{slot, isLiveWith, isLiveFor, liveIn}
 use Rattle.image.specs.WellFormed.{R1, R2, R3, R4, R5, R6, R7, liveBefore, soundBlock, sound, wellFormed, brokenRule}
-use Rattle.image.specs.Faults.{pair, isBad, firstBadBlock, firstFault, rulesOf, ruleIn, FaultExactlyWhenMalformed, NamedRuleIsBroken, EarlierBlocksAreSound, EarlierRulesHold, R6ComesLast, LiveBeforeToo, R5NamesTheLaterSlot, NoOtherPairIsFirst}
+use Rattle.image.specs.Faults.{pair, isBad, firstBadBlock, firstFault, rulesOf, ruleIn, FaultExactlyWhenMalformed, NamedRuleIsBroken, EarlierBlocksAreSound, EarlierRulesHold, R6ComesLast, LiveBeforeToo, R5ChargesTheLaterSlot, NoOtherPairIsFirst}
 use Rattle.image.proofs.Reading.{beq-true}
-use Rattle.image.proofs.Facts.{live-for}
+use Rattle.image.proofs.Facts.{live-for, live-is-for}
 
 -- ---- one block
 
@@ -226,9 +226,9 @@ r6-comes-last geo image q = go (ends geo image)
     go (in-image t r e w) = (λ six. (block-of e, t), λ n. absurd (n (rule-of e)))
     go (nowhere e w) = absurd (true≢false (sym w ∙ q))
 
-pub r5-names-the-later-slot : R5NamesTheLaterSlot
+pub r5-charges-the-later-slot : R5ChargesTheLaterSlot
 unfolding R5
-r5-names-the-later-slot geo image five = go (ends geo image)
+r5-charges-the-later-slot geo image b = (charged, breaks)
   where
     -- a slot whose number passes a test
     live-with : (f : ℕ → Bool) (s : Slot) → isLiveWith f s ≡ true → (n : ℕ) × (s ≡ Live n) × (f n ≡ true)
@@ -237,8 +237,8 @@ r5-names-the-later-slot geo image five = go (ends geo image)
     live-with f Dead t = absurd (false≢true t)
     live-with f Faulty t = absurd (false≢true t)
 
-    charged : (b : ℕ) → R5 geo image b ≡ false → LiveBeforeToo geo image b
-    charged b r =
+    charged : R5 geo image b ≡ false → LiveBeforeToo geo image b
+    charged r =
         let (i, l, fails) = all-fails (d geo) _ r in
         let (n, live, seen) = live-with (liveBefore geo image b i) (slot geo image b i) (not-false _ fails) in
         ⊎-elim
@@ -251,12 +251,20 @@ r5-names-the-later-slot geo image five = go (ends geo image)
         (n, i, b, j, l, omega arith, live, live-for n _ same, inr (refl, before)))
         (either-passes (anyBelow b (λ c. liveIn geo image c n)) _ seen)
 
-    go : Ends geo image → LiveBeforeToo geo image (firstFault geo image .block)
-    go (in-block b l sounds breaks e w) =
-        let is-five : brokenRule geo image b ≡ 5 = sym (rule-of e) ∙ five in
-        rw e (charged b (rw is-five at (first-broken geo image b .fails breaks)))
-    go (in-image t r e w) = absurd (omega (arith, rule-of e))
-    go (nowhere e w) = absurd (omega (arith, rule-of e))
+    breaks : LiveBeforeToo geo image b → R5 geo image b ≡ false
+    breaks (n, i, c, j, l, k, live, same, before) =
+        not-all (d geo) (λ i. not (isLiveWith (liveBefore geo image b i) (slot geo image b i))) l
+        (rw live (ap not (⊎-elim earlier here before)))
+      where
+        earlier : c < b → liveBefore geo image b i n ≡ true
+        earlier h =
+            ap (_|| anyBelow i (λ q. isLiveFor n (slot geo image b q)))
+            (any-of b (λ a. liveIn geo image a n) h (any-of (d geo) (λ q. isLiveFor n (slot geo image c q)) k (live-is-for same)))
+
+        here : (c ≡ b) × (j < i) → liveBefore geo image b i n ≡ true
+        here (e, h) =
+            ap (anyBelow b (λ a. liveIn geo image a n) ||_) (any-of i (λ q. isLiveFor n (slot geo image b q)) h (live-is-for (rw e at same)))
+            ∙ or-true (anyBelow b (λ a. liveIn geo image a n))
 
 pub no-other-pair-is-first : NoOtherPairIsFirst
 unfolding sound

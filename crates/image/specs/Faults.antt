@@ -20,7 +20,7 @@ abbrev pub pair : ℕ → ℕ → Fault
 pair b r = record { block = b; rule = r }
 
 module _ (geo : Geometry) (image : Image) where
-  -- the first block that breaks a rule of its own; B where none does
+  -- a block that breaks a rule of its own, and the first such block; B where there is none
   abbrev pub isBad : ℕ → Bool
   isBad b = not (eqb (brokenRule geo image b) 0)
 
@@ -80,8 +80,8 @@ R6ComesLast =
     (firstFault geo image .rule ≡ 6 → (firstFault geo image .block ≡ geo .blocks) × (sound geo image ≡ true))
     × (firstFault geo image .rule ≢ 6 → firstFault geo image .block < geo .blocks)
 
--- R5 is charged to the block of the later slot: a slot of the named block and one before it, in an earlier block or in this one, are live for
--- the same number.
+-- R5 is charged to the block of the later slot: a block breaks it exactly where one of its slots is live for a number for which a slot before it is
+-- live too, in an earlier block or in this one.
 abbrev pub LiveBeforeToo : Geometry → Image → ℕ → Type 0
 LiveBeforeToo geo image b =
     (n : ℕ) × (i : ℕ) × (c : ℕ) × (j : ℕ)
@@ -91,11 +91,11 @@ LiveBeforeToo geo image b =
     × (slot geo image c j ≡ Live n)
     × ((c < b) ⊎ ((c ≡ b) × (j < i)))
 
-abbrev pub R5NamesTheLaterSlot : Type 0
-R5NamesTheLaterSlot =
-    (geo : Geometry) (image : Image) → firstFault geo image .rule ≡ 5 → LiveBeforeToo geo image (firstFault geo image .block)
+abbrev pub R5ChargesTheLaterSlot : Type 0
+R5ChargesTheLaterSlot = (geo : Geometry) (image : Image) (b : ℕ) → (R5 geo image b ≡ false) ↔ LiveBeforeToo geo image b
 
--- No other pair meets these laws: so they leave nothing of the definition to be believed.
+-- No other pair is the first: one whose rule is broken, while all that comes before it holds, is `firstFault`. So nothing of that definition
+-- is left to be believed, only the rules themselves.
 abbrev pub NoOtherPairIsFirst : Type 0
 NoOtherPairIsFirst =
     (geo : Geometry) (image : Image) (b r : ℕ) →
