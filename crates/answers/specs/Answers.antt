@@ -14,23 +14,20 @@ numberOf Unmapped = 5
 numberOf WornOut = 6
 
 -- the bad block and the bad rule: those of refusal 4, and 0 and 0 of every other answer
+abbrev ofPair : (ℕ → ℕ → ℕ) → Answer → ℕ
+ofPair part Accepted = 0
+ofPair part BadGeometry = 0
+ofPair part BadBuffer = 0
+ofPair part BadNumber = 0
+ofPair part (Malformed block rule) = part block rule
+ofPair part Unmapped = 0
+ofPair part WornOut = 0
+
 abbrev pub blockOf : Answer → ℕ
-blockOf Accepted = 0
-blockOf BadGeometry = 0
-blockOf BadBuffer = 0
-blockOf BadNumber = 0
-blockOf (Malformed block rule) = block
-blockOf Unmapped = 0
-blockOf WornOut = 0
+blockOf = ofPair (λ block rule. block)
 
 abbrev pub ruleOf : Answer → ℕ
-ruleOf Accepted = 0
-ruleOf BadGeometry = 0
-ruleOf BadBuffer = 0
-ruleOf BadNumber = 0
-ruleOf (Malformed block rule) = rule
-ruleOf Unmapped = 0
-ruleOf WornOut = 0
+ruleOf = ofPair (λ block rule. rule)
 
 -- what a call gives where it is accepted, and what it gives where it is refused
 abbrev pub ifAccepted {ℓ} : {A : Type ℓ} → Answer → A → A → A
