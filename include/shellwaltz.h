@@ -20,7 +20,7 @@
  * word of the image and none of the buffer, and gives 0 for every count. So a call either does all of its work or none.
  *
  * SHELLWALTZ_MALFORMED comes with the block and the rule (1 to 7, docs/FORMAT.md) that fail first: blocks in ascending order, and within a
- * block its rules in the order of their numbers. A number that is live in two slots is charged to the block of the later one. Rule 6, that
+ * block its rules in the order of their numbers. A number that is stored in two slots is charged to the block of the later one. Rule 6, that
  * some block is blank, is the whole image's: it is named last, with `blocks` as the bad block. With every other answer, *bad_block and
  * *bad_rule are 0.
  *
@@ -88,7 +88,7 @@ uint32_t shellwaltz_release(uint32_t blocks, uint32_t sectors, uint32_t logical,
                             uint32_t number, uint32_t *words, uint32_t *erasures, uint32_t *bad_block, uint32_t *bad_rule);
 
 /* ---- The short calls: each passes the part and its own arguments on to the proved function of the same name, and nothing else. A buffer
- * is always 128 words here, so no call of these is refused with 2. */
+ * is always 128 words here, so no call of these is refused with 2. What is said above of pointers holds of the part's image as well. */
 
 /* A part: its geometry, and the image that mirrors it. SHELLWALTZ_PART initialises one whose image has the words that its geometry says,
  * in C and in C++; later versions may add fields, which it then sets as well. */
