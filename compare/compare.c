@@ -25,7 +25,7 @@
 #include <string.h>
 #include <time.h>
 
-#include "faults.h"
+#include "came_about.h"
 
 enum { GUARD = 64, MOST_BUFFER = 2 * SECTOR, SHORT_RUN = 48, LONG_RUN = 1500, ANSWERS = 7 };
 enum { RUBBISH = 77 };       /* what a call finds where it is to put a number: neither a block nor a rule */

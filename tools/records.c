@@ -6,11 +6,9 @@
  *     record OPERATION NUMBER FILL     any three numbers
  *
  * A line each, numbers in decimal or with 0x in hexadecimal; an empty line or one that begins with # says nothing. */
-#include <errno.h>
-#include <stdint.h>
 #include <stdio.h>
-#include <stdlib.h>
-#include <string.h>
+
+#include "number.h"
 
 enum { MOST_WORDS = 4 };
 
@@ -24,12 +22,10 @@ static void refuse(const char *why)
 
 static uint32_t number(const char *word)
 {
-    char *end;
-    errno = 0;
-    unsigned long long value = strtoull(word, &end, 0);
-    if (*word < '0' || *word > '9' || *end != '\0' || errno != 0 || value > UINT32_MAX)
+    uint32_t value;
+    if (!number_of(word, &value))
         refuse("a number from 0 to 4294967295 is wanted");
-    return (uint32_t)value;
+    return value;
 }
 
 static void put(uint32_t value)

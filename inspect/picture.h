@@ -1,0 +1,15 @@
+/* The image as a picture: one SVG that needs no other file. A row for each block and a cell for each slot. */
+#ifndef PICTURE_H
+#define PICTURE_H
+
+#include <stdio.h>
+
+#include "places.h"
+
+/* How each of these pictures begins. */
+#define PICTURE_BEGINNING "<svg class=\"shellwaltz-inspect\""
+
+/* `name` is what the picture is of: the name of the file. */
+void print_picture(FILE *out, const struct survey *s, struct shellwaltz_result check, const char *name);
+
+#endif

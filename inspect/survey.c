@@ -1,0 +1,122 @@
+#include "survey.h"
+
+static const uint32_t NUMBER_BITS = 0x1FFFFFFFu;
+enum { STORED = 6 }; /* bits 31 to 29 of an entry that is valid, current and finished */
+
+static enum slot_kind kind_of(uint32_t entry, uint32_t logical)
+{
+    if (entry == ALL_ONES)
+        return FREE;
+    if (entry >> 29 != STORED)
+        return DEAD;
+    return (entry & NUMBER_BITS) < logical ? LIVE : FAULTY;
+}
+
+bool has_wrong_map_bit(const struct slot *slot)
+{
+    return slot->map_bit != (slot->kind == FREE);
+}
+
+bool is_stained(const struct slot *slot)
+{
+    return slot->kind == FREE && slot->first_stain < SHELLWALTZ_SECTOR_WORDS;
+}
+
+uint32_t entry_word(const struct survey *s, uint32_t slot)
+{
+    return MAP_WORD + s->map_words + slot;
+}
+
+const uint32_t *contents_of(const struct survey *s, struct place at)
+{
+    return s->blocks[at.block].words + (size_t)(at.slot + 1) * SHELLWALTZ_SECTOR_WORDS;
+}
+
+unsigned long byte_of(const struct survey *s, const uint32_t *word)
+{
+    return (unsigned long)(word - s->part.image) * 4;
+}
+
+static uint32_t first_stain(const uint32_t *contents)
+{
+    uint32_t word = 0;
+    while (word < SHELLWALTZ_SECTOR_WORDS && contents[word] == ALL_ONES)
+        word++;
+    return word;
+}
+
+/* A live slot: whether its number was met before, in the order of blocks and slots. */
+static void meet_number(struct survey *s, struct slot *slot, struct place at)
+{
+    slot->is_repeat = s->numbers[slot->number].is_live;
+    slot->earlier = s->numbers[slot->number].first;
+    if (!slot->is_repeat)
+        s->numbers[slot->number].first = at;
+    s->numbers[slot->number].is_live = true;
+}
+
+static void survey_slot(struct survey *s, struct place at)
+{
+    struct block *block = &s->blocks[at.block];
+    struct slot *slot = &block->slots[at.slot];
+    slot->entry = block->words[entry_word(s, at.slot)];
+    slot->kind = kind_of(slot->entry, s->part.logical);
+    slot->number = slot->entry & NUMBER_BITS;
+    slot->map_bit = block->words[MAP_WORD + at.slot / MAP_BITS] >> at.slot % MAP_BITS & 1;
+    if (slot->kind == FREE)
+        slot->first_stain = first_stain(contents_of(s, at));
+    if (slot->kind == LIVE)
+        meet_number(s, slot, at);
+    block->count[slot->kind]++;
+}
+
+void survey(struct survey *s, struct shellwaltz_part part)
+{
+    *s = (struct survey){.part = part, .slots = part.sectors - 1};
+    s->map_words = (s->slots + MAP_BITS - 1) / MAP_BITS;
+    for (uint32_t b = 0; b < part.blocks; b++) {
+        struct block *block = &s->blocks[b];
+        block->words = part.image + (size_t)b * part.sectors * SHELLWALTZ_SECTOR_WORDS;
+        for (uint32_t i = 0; i < s->slots; i++)
+            survey_slot(s, (struct place){b, i});
+        block->kind = block->count[FREE] == s->slots ? BLANK : block->count[FREE] == 0 ? FULL : OPEN;
+    }
+}
+
+uint32_t slots_of_kind(const struct survey *s, enum slot_kind kind)
+{
+    uint32_t sum = 0;
+    for (uint32_t b = 0; b < s->part.blocks; b++)
+        sum += s->blocks[b].count[kind];
+    return sum;
+}
+
+uint32_t blocks_of_kind(const struct survey *s, enum block_kind kind)
+{
+    uint32_t sum = 0;
+    for (uint32_t b = 0; b < s->part.blocks; b++)
+        sum += s->blocks[b].kind == kind;
+    return sum;
+}
+
+bool is_full_part(const struct survey *s)
+{
+    return blocks_of_kind(s, OPEN) == 0 && blocks_of_kind(s, BLANK) == 1;
+}
+
+/* Most dead slots first, then the least erase count; the lowest number among equals, as the search goes up. */
+static bool goes_before(const struct block *x, const struct block *y)
+{
+    if (x->count[DEAD] != y->count[DEAD])
+        return x->count[DEAD] > y->count[DEAD];
+    return x->words[COUNT_WORD] < y->words[COUNT_WORD];
+}
+
+uint32_t victim_of(const struct survey *s)
+{
+    uint32_t victim = s->part.blocks;
+    for (uint32_t b = 0; b < s->part.blocks; b++)
+        if (s->blocks[b].kind == FULL && (victim == s->part.blocks || goes_before(&s->blocks[b], &s->blocks[victim])))
+            victim = b;
+    return victim;
+}

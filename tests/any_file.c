@@ -1,0 +1,339 @@
+/* inspect looks at files of every kind: sound images, such with planted faults, with flipped bits and changed words, random ones, cut ones,
+ * too long ones, and those of another geometry.
+ *
+ *     any_file SEED FILES FOLDER
+ *
+ * It must never do what a sanitizer stops, and what it says must be what the library says of the same words: the status, the pair of the
+ * verdict (of planted faults the one that was planted), the totals, the block that the next reclaim takes (by a write on a copy), the bytes of a
+ * sector, and in the picture a cell for each slot, with what its entry says, and the marks of what is bad. Files and pictures go to the folder;
+ * each hundredth picture stays, as CELLS-NUMBER.svg, to be parsed. It fails too where some kind of file or some outcome never came about.
+ *
+ * The test of this test: compiled with -DSPOIL it changes an erase count in some files when it has noted what to expect, and must fail. */
+#include <stdarg.h>
+#include <stdio.h>
+#include <stdlib.h>
+#include <string.h>
+
+#include "../compare/counts.h"
+#include "../compare/faults.h"
+#include "../inspect/inspect.h"
+
+static const struct geometry geometries[] = {{2, 3, 1},   {3, 2, 1},   {64, 2, 62}, {3, 3, 3},     {4, 4, 8},      {4, 8, 16},
+                                             {5, 5, 15},  {8, 16, 90}, {4, 32, 90}, {7, 33, 100},  {7, 34, 190},   {2, 64, 62},
+                                             {3, 5, 7},   {5, 3, 7},   {2, 16, 14}, {16, 2, 14},   {64, 64, 3968}};
+enum { GEOMETRIES = sizeof geometries / sizeof *geometries, LARGE = GEOMETRIES - 1, LARGE_EVERY = 400, KEPT_EVERY = 100, SMALL_PICTURE = 128 };
+enum kind { SOUND, PLANTED, FLIPPED, RANDOM, CUT, TOO_LONG, OTHER_GEOMETRY, FILE_KINDS };
+enum { OUTCOMES = 3, TEXT = 1 << 17, PICTURE = 1 << 21 };
+
+#ifdef SPOIL
+enum { SPOILED = 1 };
+#else
+enum { SPOILED = 0 };
+#endif
+
+/* A file, and what to expect of it. */
+struct trial {
+    enum kind kind;
+    struct planting planted;
+    struct geometry g;               /* as it is handed to inspect */
+    uint32_t *image;                 /* the file's words */
+    size_t bytes;                    /* of the file */
+    uint32_t number;                 /* the sector that is asked for */
+    struct shellwaltz_result check;  /* of a file of the right length */
+    enum inspect_status status;
+};
+
+static const char *folder;
+static char file_name[512], picture_name[512], text[TEXT], complaint[TEXT], picture[PICTURE];
+static unsigned long seen_kind[FILE_KINDS], seen_status[OUTCOMES], seen_rule[RULES + 1], seen_reclaim, seen_worn, seen_sector;
+
+static void fail(const struct trial *t, const char *why)
+{
+    printf("inspect: %s: geometry %u %u %u, kind of file %d, sector %u, %s\n%s%s", why, (unsigned)t->g.blocks, (unsigned)t->g.sectors,
+           (unsigned)t->g.logical, (int)t->kind, (unsigned)t->number, file_name, text, complaint);
+    show_faults(&t->planted);
+    exit(1);
+}
+
+static struct shellwaltz_part part_of(const struct trial *t, uint32_t *image)
+{
+    struct shellwaltz_part part = SHELLWALTZ_PART(t->g.blocks, t->g.sectors, t->g.logical, image);
+    return part;
+}
+
+/* ---- Files */
+
+static void flip_bits(struct trial *t)
+{
+    for (uint32_t n = 1 + below(4); n > 0; n--) {
+        uint32_t b = below(t->g.blocks), word = one_in(2) ? below(68) : below(t->g.sectors * SECTOR);
+        block_of(t->g, t->image, b)[word % (t->g.sectors * SECTOR)] ^= 1u << below(32);
+    }
+}
+
+static void make_random(struct trial *t)
+{
+    bool any_bytes = one_in(2);
+    for (size_t w = 0; w < words_of(t->g); w++)
+        t->image[w] = any_bytes ? (uint32_t)chance() : odd_word(t->g);
+}
+
+/* The length of a file that has not the right one, or by chance has. */
+static void set_length(struct trial *t)
+{
+    size_t bytes = 4 * words_of(t->g);
+    if (t->kind == CUT)
+        bytes = one_in(8) ? 0 : one_in(4) ? bytes - 1 : below((uint32_t)bytes);
+    if (t->kind == TOO_LONG)
+        bytes += one_in(4) ? 1 : 1 + below(4096);
+    t->bytes = bytes;
+}
+
+/* A file of another length cannot be looked at. Of planted faults the first is known from how they were made. */
+static void expect(struct trial *t)
+{
+    struct shellwaltz_part part = part_of(t, t->image);
+    t->status = INSPECT_NOT_DONE;
+    if (t->bytes != 4 * words_of(t->g))
+        return;
+    t->check = shellwaltz_part_check(&part);
+    t->status = t->check.answer == SHELLWALTZ_OK ? INSPECT_SOUND : INSPECT_MALFORMED;
+    const struct fault *first = first_fault(&t->planted);
+    if (t->kind == PLANTED && (first->block != t->check.bad_block || first->rule != t->check.bad_rule))
+        fail(t, "the check names another fault than was planted");
+}
+
+static enum kind some_kind(void)
+{
+    static const enum kind kinds[] = {SOUND, SOUND, PLANTED, FLIPPED, FLIPPED, FLIPPED, FLIPPED, RANDOM, RANDOM, RANDOM, RANDOM, CUT, CUT, CUT,
+                                      TOO_LONG, OTHER_GEOMETRY};
+    return kinds[below(sizeof kinds / sizeof *kinds)];
+}
+
+static struct trial make_trial(unsigned long round, uint32_t *image)
+{
+    struct geometry g = geometries[round % LARGE_EVERY == 0 ? LARGE : below(LARGE)];
+    struct trial t = {.kind = some_kind(), .g = g, .image = image};
+    make_image(g, image);
+    switch (t.kind) {
+    case PLANTED: plant_faults(&t.planted, g, image); break;
+    case FLIPPED: one_in(4) ? damage(g, image) : flip_bits(&t); break;
+    case RANDOM: make_random(&t); break;
+    default: break;
+    }
+    set_length(&t);
+    if (t.kind == OTHER_GEOMETRY)
+        t.g = geometries[below(LARGE)];
+    t.number = below(t.g.logical);
+    expect(&t);
+    return t;
+}
+
+static void save(const struct trial *t)
+{
+    FILE *file = fopen(file_name, "wb");
+    uint32_t flip = SPOILED && one_in(8);
+    if (!file)
+        fail(t, "the file cannot be made");
+    t->image[0] ^= flip;
+    for (size_t i = 0; i < t->bytes; i++)
+        putc((int)(t->image[i / 4] >> 8 * (i % 4) & 0xFF), file);
+    t->image[0] ^= flip;
+    if (fclose(file) != 0)
+        fail(t, "the file cannot be written");
+}
+
+/* ---- What inspect leaves */
+
+static void load(FILE *file, char *to, size_t room)
+{
+    rewind(file);
+    to[fread(to, 1, room - 1, file)] = '\0';
+}
+
+static enum inspect_status run(const struct trial *t)
+{
+    char b[12], s[12], l[12], n[12];
+    char *argv[] = {"inspect", file_name, b, s, "--svg", picture_name, l, "--sector", n, NULL};
+    FILE *out = tmpfile(), *err = tmpfile();
+    if (!out || !err)
+        fail(t, "no file for the output");
+    sprintf(b, "%u", (unsigned)t->g.blocks);
+    sprintf(s, "%u", (unsigned)t->g.sectors);
+    sprintf(l, "0x%x", (unsigned)t->g.logical);
+    sprintf(n, "%u", (unsigned)t->number);
+    enum inspect_status status = inspect(9, argv, out, err);
+    load(out, text, sizeof text);
+    load(err, complaint, sizeof complaint);
+    fclose(out);
+    fclose(err);
+    return status;
+}
+
+/* Letter by letter: under the sanitizers each search by strstr first goes to the end of the text. */
+static unsigned long count(const char *in, const char *what)
+{
+    unsigned long n = 0;
+    size_t length = strlen(what);
+    for (const char *at = in; *at != '\0'; at++)
+        n += *at == *what && strncmp(at, what, length) == 0;
+    return n;
+}
+
+/* Fails where the words or the picture lack what the format gives. */
+static void must_have(const struct trial *t, const char *in, const char *format, ...)
+{
+    char wanted[256];
+    va_list values;
+    va_start(values, format);
+    vsnprintf(wanted, sizeof wanted, format, values);
+    va_end(values);
+    if (strstr(in, wanted))
+        return;
+    printf("wanted: %s\n", wanted);
+    fail(t, "something else is said");
+}
+
+static void hold_verdict(const struct trial *t)
+{
+    struct shellwaltz_part part = part_of(t, t->image);
+    struct shellwaltz_totals totals = shellwaltz_part_report(&part);
+    const char *past = t->check.bad_block == t->g.blocks ? ", one past the last," : "";
+    if (t->status == INSPECT_MALFORMED)
+        must_have(t, text, "Malformed: block %u%s breaks rule %u (", (unsigned)t->check.bad_block, past, (unsigned)t->check.bad_rule);
+    if (t->status == INSPECT_SOUND) {
+        must_have(t, text, "Well formed: ");
+        must_have(t, text, ", %u live, %u free, %u dead, 0 faulty.\n", (unsigned)totals.mapped, (unsigned)totals.free_slots, (unsigned)totals.dead);
+        must_have(t, text, "Erase counts: %u in all, ", (unsigned)totals.erase_sum);
+    }
+    if (strncmp(text, t->status == INSPECT_SOUND ? "Well formed: " : "Malformed: ", 11) != 0 || strstr(text, "does not see"))
+        fail(t, "the verdict is not first, or has no place");
+}
+
+/* What a write on a copy does is what the words say of it. */
+static void hold_next_reclaim(const struct trial *t)
+{
+    static uint32_t copy[SHELLWALTZ_IMAGE_WORDS(64, 64)], buffer[SECTOR];
+    struct shellwaltz_part part = part_of(t, copy);
+    memcpy(copy, t->image, t->bytes);
+    struct shellwaltz_result wrote = shellwaltz_part_write(&part, t->number, buffer);
+    if (wrote.answer == SHELLWALTZ_WORN_OUT)
+        must_have(t, text, "The next write is refused with 6: block ");
+    else if (wrote.erasures == 0)
+        must_have(t, text, "Writes that fit before one has to reclaim a block: ");
+    for (uint32_t b = 0; b < t->g.blocks; b++)
+        if (*block_of(t->g, copy, b) != *block_of(t->g, t->image, b))
+            must_have(t, text, "The next write reclaims block %u (", (unsigned)b);
+    seen_reclaim += wrote.erasures;
+    seen_worn += wrote.answer == SHELLWALTZ_WORN_OUT;
+}
+
+/* The lines of a sector, as xxd has them. */
+static void hold_sector(const struct trial *t)
+{
+    uint32_t buffer[SECTOR];
+    struct shellwaltz_part part = part_of(t, t->image);
+    if (shellwaltz_part_read(&part, t->number, buffer).answer == SHELLWALTZ_UNMAPPED) {
+        must_have(t, text, "\nSector %u is not mapped.\n", (unsigned)t->number);
+        return;
+    }
+    seen_sector++;
+    must_have(t, text, "\nSector %u is in block ", (unsigned)t->number);
+    for (uint32_t line = 0; line < 32; line++) {
+        char hex[64], *at = hex;
+        for (uint32_t byte = 16 * line; byte < 16 * line + 16; byte++)
+            at += sprintf(at, "%02x%s", (unsigned)(buffer[byte / 4] >> 8 * (byte % 4) & 0xFF), byte % 2 == 0 ? "" : " ");
+        must_have(t, text, "\n%08x: %s ", (unsigned)(16 * line), hex);
+    }
+}
+
+/* Each slot's title has its entry, and the kind that the entry says. */
+static void hold_cells(const struct trial *t)
+{
+    for (uint32_t i = 0; i < t->g.blocks * slots_of(t->g); i++) {
+        uint32_t b = i / slots_of(t->g), slot = i % slots_of(t->g), entry = entries_of(t->g, block_of(t->g, t->image, b))[slot];
+        bool is_stored = entry >= LIVE && entry < LIVE + 0x20000000u, is_live = is_stored && entry < LIVE + t->g.logical;
+        char sector[32] = "";
+        if (is_live)
+            snprintf(sector, sizeof sector, " sector %u,", (unsigned)(entry - LIVE));
+        must_have(t, picture, ">block %u slot %u: %s,%s entry 0x%08X", (unsigned)b, (unsigned)slot,
+                  entry == ONES ? "free" : is_live ? "live" : is_stored ? "faulty" : "dead", sector, (unsigned)entry);
+    }
+}
+
+/* A cell for each slot; the bad block marked, and the slots that break a rule outlined, beside the one of the legend. */
+static void hold_marks(const struct trial *t)
+{
+    unsigned long outlined = count(picture, " broken\" x=") - 1;
+    if (count(picture, "<rect class=\"cell ") != t->g.blocks * slots_of(t->g) || strcmp(picture + strlen(picture) - 7, "</svg>\n") != 0)
+        fail(t, "the picture has not a cell for each slot");
+    if (count(picture, "<rect class=\"bad\"") != (t->status == INSPECT_MALFORMED))
+        fail(t, "the picture does not mark the one bad block");
+    if (t->status == INSPECT_SOUND ? outlined > 0 : t->check.bad_rule >= 3 && t->check.bad_rule <= 5 && outlined == 0)
+        fail(t, "the picture does not outline the slots that break a rule");
+    if (t->status == INSPECT_MALFORMED)
+        must_have(t, picture, "bad block %u: R%u", (unsigned)t->check.bad_block, (unsigned)t->check.bad_rule);
+}
+
+static void hold_picture(const struct trial *t, unsigned long round)
+{
+    FILE *file = fopen(picture_name, "rb");
+    char kept[600];
+    if (!file)
+        fail(t, "there is no picture");
+    load(file, picture, sizeof picture);
+    fclose(file);
+    hold_marks(t);
+    if (t->g.blocks * slots_of(t->g) < SMALL_PICTURE)
+        hold_cells(t);
+    snprintf(kept, sizeof kept, "%s/%u-%lu.svg", folder, (unsigned)(t->g.blocks * slots_of(t->g)), round);
+    if (round % KEPT_EVERY == 0)
+        rename(picture_name, kept);
+    else
+        remove(picture_name);
+}
+
+static void try_one(unsigned long round, uint32_t *image)
+{
+    struct trial t = make_trial(round, image);
+    save(&t);
+    seen_kind[t.kind]++;
+    seen_status[t.status]++;
+    seen_rule[t.check.bad_rule]++;
+    if (run(&t) != t.status)
+        fail(&t, "another status");
+    if ((t.status == INSPECT_NOT_DONE) != (strncmp(complaint, "inspect: ", 9) == 0 && *text == '\0'))
+        fail(&t, "a file of another length has a sentence and nothing else");
+    if (t.status == INSPECT_NOT_DONE)
+        return;
+    hold_verdict(&t);
+    hold_picture(&t, round);
+    if (t.status == INSPECT_SOUND) {
+        hold_next_reclaim(&t);
+        hold_sector(&t);
+    }
+}
+
+int main(int argc, char **argv)
+{
+    if (argc != 4)
+        return 2;
+    chance_state = strtoull(argv[1], NULL, 10);
+    unsigned long files = strtoul(argv[2], NULL, 10);
+    uint32_t *image = calloc(2 * words_of(geometries[LARGE]), 4); /* room for what makes a file too long */
+    folder = argv[3];
+    snprintf(file_name, sizeof file_name, "%s/part.img", folder);
+    snprintf(picture_name, sizeof picture_name, "%s/part.svg", folder);
+    for (unsigned long round = 0; image && round < files; round++)
+        try_one(round, image);
+    free(image);
+    printf("inspect: %lu files", files);
+    bool complete = show_counts("; sound, planted, flipped, random, cut, too long, of another geometry", seen_kind, FILE_KINDS);
+    complete &= show_counts("; status 0, 1, 2", seen_status, OUTCOMES);
+    complete &= show_counts("; rule 1 to 7 the answer", seen_rule + 1, RULES);
+    complete &= show_counts("; the next write reclaims", &seen_reclaim, 1);
+    complete &= show_counts(", is refused", &seen_worn, 1);
+    complete &= show_counts("; sectors", &seen_sector, 1);
+    puts(complete ? "" : " <- a 0: it never came about");
+    return complete ? 0 : 1;
+}
