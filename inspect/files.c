@@ -48,32 +48,34 @@ uint32_t *load_image(const char *name, size_t words, FILE *err)
     return NULL;
 }
 
-/* Whether something is there that does not begin so. Opened for reading and writing, as that does not wait where the name is a pipe's;
- * a pipe or a terminal has no length and holds nothing that could be lost. */
-static bool holds_something_else(const char *name, const char *beginning)
+/* Whether something is in the file: a pipe or a terminal has no length, and holds nothing that could be lost. A length that is too large to be told
+ * is one. */
+static bool has_contents(FILE *file)
 {
-    char found[64];
-    size_t length = strlen(beginning), got = 0;
-    FILE *file = fopen(name, "r+b");
-    if (!file)
-        return false;
-    if (fseek(file, 0, SEEK_END) != 0 || ftell(file) <= 0) {
-        fclose(file);
-        return false;
-    }
-    rewind(file);
-    got = fread(found, 1, length, file);
-    fclose(file);
-    return got < length || memcmp(found, beginning, length) != 0;
+    return fseek(file, 0, SEEK_END) == 0 && ftell(file) != 0;
 }
 
+static bool begins_with(FILE *file, const char *beginning)
+{
+    rewind(file);
+    while (*beginning != '\0' && getc(file) == (unsigned char)*beginning)
+        beginning++;
+    return *beginning == '\0';
+}
+
+/* One that is there already is opened for reading and writing, which waits for nobody where it is a pipe, and is emptied only when it is known
+ * to be a picture. */
 FILE *open_picture(const char *name, const char *beginning, FILE *err)
 {
-    if (holds_something_else(name, beginning)) {
+    FILE *file = fopen(name, "wbx");
+    file = file ? file : fopen(name, "r+b");
+    if (file && has_contents(file) && !begins_with(file, beginning)) {
         fprintf(err, "inspect: %s is there already and is not a picture of this tool; it is left as it is.\n", name);
+        fclose(file);
         return NULL;
     }
-    FILE *file = fopen(name, "wb");
+    if (file && has_contents(file))
+        file = freopen(name, "wb", file);
     if (!file)
         fprintf(err, "inspect: %s cannot be written: %s.\n", name, strerror(errno));
     return file;

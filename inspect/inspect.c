@@ -4,8 +4,8 @@
 #include <stdlib.h>
 #include <string.h>
 
-#include "../tools/number.h"
 #include "files.h"
+#include "number.h"
 #include "picture.h"
 #include "words.h"
 
@@ -35,6 +35,11 @@ static bool refuse(FILE *err, const char *format, ...)
 
 /* ---- The command */
 
+static bool is_option(const char *word)
+{
+    return strncmp(word, "--", 2) == 0;
+}
+
 /* An option and its value; where the value goes, or null if there is no such option. */
 static const char **option_of(struct request *r, const char *word)
 {
@@ -46,24 +51,24 @@ static bool split_command(int argc, char **argv, struct request *r, FILE *err)
     int words = 0;
     for (int i = 1; i < argc; i++) {
         const char **value = option_of(r, argv[i]);
-        if (value && (*value || i + 1 == argc))
+        if (value && (*value || i + 1 == argc || is_option(argv[i + 1])))
             return refuse(err, *value ? "%s is there twice" : "%s wants a value after it", argv[i]);
         if (value)
             *value = argv[++i];
-        else if (strncmp(argv[i], "--", 2) == 0)
-            return refuse(err, "there is no option %s", argv[i]);
+        else if (is_option(argv[i]))
+            return refuse(err, "there is no option '%s'", argv[i]);
         else if (words == WANTED)
-            return refuse(err, "%s is one word too many", argv[i]);
+            return refuse(err, "'%s' is one word too many", argv[i]);
         else
             r->words[words++] = argv[i];
     }
-    return words == WANTED || refuse(err, "FILE, BLOCKS, SECTORS and LOGICAL are wanted, and %d of the four are there", words);
+    return words == WANTED || refuse(err, "FILE, BLOCKS, SECTORS and LOGICAL are wanted; words of these four that are there: %d", words);
 }
 
 static bool take_number(const char *name, const char *word, uint32_t least, uint32_t most, uint32_t *number, FILE *err)
 {
     return (number_of(word, number) && *number >= least && *number <= most) ||
-           refuse(err, "%s is a number from %u to %u, and not %s", name, least, most, word);
+           refuse(err, "%s is a number from %u to %u, and not '%s'", name, least, most, word);
 }
 
 /* The most logical sectors and the greatest number follow from the numbers before them, so they go in this order. */
@@ -94,16 +99,17 @@ static bool save_picture(const struct request *r, const struct survey *s, struct
     return is_written;
 }
 
-/* Words first, so that they are there even where the picture cannot be saved. */
+/* The picture first: who reads the words may be gone after the first of them, as `head` is. */
 static bool show(const struct request *r, const struct survey *s, struct shellwaltz_result check, FILE *out, FILE *err)
 {
+    bool is_saved = !r->svg || save_picture(r, s, check, err);
     print_survey(out, s, check);
     if (r->sector)
         print_sector(out, s, r->number);
     bool is_printed = fflush(out) == 0 && !ferror(out);
     if (!is_printed)
         fputs("inspect: standard output could not be written to its end.\n", err);
-    return (!r->svg || save_picture(r, s, check, err)) && is_printed;
+    return is_saved && is_printed;
 }
 
 static enum inspect_status look_at(const struct request *r, uint32_t *image, FILE *out, FILE *err)
@@ -111,10 +117,6 @@ static enum inspect_status look_at(const struct request *r, uint32_t *image, FIL
     static struct survey s;
     struct shellwaltz_part part = SHELLWALTZ_PART(r->blocks, r->sectors, r->logical, image);
     struct shellwaltz_result check = shellwaltz_part_check(&part);
-    if (check.answer != SHELLWALTZ_OK && check.answer != SHELLWALTZ_MALFORMED) {
-        fprintf(err, "inspect: the library refuses this image: %s\n", shellwaltz_meaning(check.answer)); /* one with other limits */
-        return INSPECT_NOT_DONE;
-    }
     survey(&s, part);
     if (!show(r, &s, check, out, err))
         return INSPECT_NOT_DONE;

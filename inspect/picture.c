@@ -4,51 +4,71 @@
 
 #include "words.h"
 
-/* All lengths are in pixels. From left to right: the block's number and kind, a cell for each slot, the bar of the erase count, and the rules
- * that the block breaks. */
-enum { MARGIN = 16, LABELS = 76, PITCH = 27, CELL_WIDTH = 26, ROW = 19, CELL_HEIGHT = 17, BAR = 120, COUNTS = 84, RULES_WIDTH = 210 };
-enum { LEAST_WIDTH = 760, LETTER = 7, LINE_HEIGHT = 18, BASELINE = 13, KEY_WIDTH = 128 };
+/* All lengths are in pixels. From left to right: the block's kind and number, a cell for each slot, the number again, the bar of the erase
+ * count, the count, and the rules that the block breaks. */
+static const uint32_t MARGIN = 16, LABELS = 76, PITCH = 27, CELL_WIDTH = 26, ROW = 19, CELL_HEIGHT = 17, NUMBERS = 36, BAR = 120, COUNTS = 84,
+                      RULES_WIDTH = 210, LEAST_WIDTH = 760;
+static const uint32_t LETTER = 7, LARGE_LETTER = 11, LINE_HEIGHT = 18, BASELINE = 13, KEY_WIDTH = 128, SPACE = 8;
 
-/* The numbers that fit into a cell, and the sign of a faulty one. */
-enum { NUMBERS_THAT_FIT = 10000 };
+/* What stands in the cell of a faulty slot. */
 #define FAULT_SIGN "!"
 
 /* The fills differ in lightness, from white over sky blue and vermilion to dark grey, so that they can be told apart without their hues as
- * well; a faulty slot has a sign in it, and one that breaks a rule a heavy outline. */
+ * well. The mark of a slot that breaks a rule is black with white inside it, so that it shows on each of them. */
 static const char style[] = "<style>"
                             "text{font:12px sans-serif;fill:#000}"
                             ".name{font-weight:bold;font-size:16px}"
                             ".slot,.in{font-size:10px;text-anchor:middle;pointer-events:none}"
-                            ".left{text-anchor:end}"
-                            ".cell,.key{stroke:#888;stroke-width:1}"
+                            ".label,.row,.corner{text-anchor:end}"
+                            ".ground{fill:#fff}"
                             ".free{fill:#fff}.live{fill:#56b4e9}.dead{fill:#4d4d4d}.faulty{fill:#d55e00}"
-                            ".broken{stroke:#d55e00;stroke-width:3}"
+                            ".cell,.key{stroke:#888;stroke-width:1}"
+                            ".mark{fill:none;stroke:#000;stroke-width:3;pointer-events:none}"
+                            ".inner{fill:none;stroke:#fff;stroke-width:1;pointer-events:none}"
                             ".bar{fill:#0072b2}.over{fill:#d55e00}.track{fill:#eee}"
                             ".bad{fill:#f0e442}.badname{font-weight:bold}"
                             "</style>\n";
 
 struct layout {
     uint32_t width, height;
-    uint32_t line;      /* letters of a line of the verdict */
-    uint32_t legend;    /* top of the legend */
-    uint32_t rows;      /* top of the first row */
-    uint32_t cells;     /* left end of the first cell */
-    uint32_t bars;      /* left end of the bars */
-    uint32_t longest;   /* the erase count of the longest bar */
+    uint32_t line;    /* letters of a line of the verdict */
+    uint32_t legend;  /* top of the legend */
+    uint32_t rows;    /* top of the first row */
+    uint32_t cells;   /* left end of the first cell */
+    uint32_t bars;    /* left end of the bars */
+    uint32_t longest; /* the erase count of the longest bar */
 };
 
 /* ---- Text */
 
-/* As XML has it; what is not a printable ASCII letter becomes a question mark. */
-static void print_escaped(FILE *out, const char *text)
+/* Up to `most` letters, as XML has them; what is not a printable ASCII letter becomes a question mark. */
+static void print_escaped(FILE *out, const char *text, size_t most)
 {
-    for (; *text != '\0'; text++)
+    for (; *text != '\0' && most > 0; text++, most--)
         switch (*text) {
         case '&': fputs("&amp;", out); break;
         case '<': fputs("&lt;", out); break;
         case '>': fputs("&gt;", out); break;
         default: putc(*text >= ' ' && *text <= '~' ? *text : '?', out); break;
         }
+}
+
+static void begin_text(FILE *out, const char *class, uint32_t x, uint32_t y)
+{
+    fprintf(out, "<text class=\"%s\" x=\"%u\" y=\"%u\">", class, x, y + BASELINE);
+}
+
+static void print_text(FILE *out, const char *class, uint32_t x, uint32_t y, const char *text)
+{
+    begin_text(out, class, x, y);
+    print_escaped(out, text, strlen(text));
+    fputs("</text>\n", out);
+}
+
+static void print_number(FILE *out, const char *class, uint32_t x, uint32_t y, uint32_t number)
+{
+    begin_text(out, class, x, y);
+    fprintf(out, "%u</text>\n", number);
 }
 
 /* The length of the text's next line: up to the last space within `most` letters, or all of them. */
@@ -68,8 +88,11 @@ static uint32_t print_lines(FILE *out, const char *text, uint32_t most, uint32_t
     uint32_t lines = 0;
     for (; *text != '\0'; lines++) {
         uint32_t length = next_line(text, most);
-        if (out)
-            fprintf(out, "<text x=\"%u\" y=\"%u\">%.*s</text>\n", MARGIN, y + lines * LINE_HEIGHT + BASELINE, (int)length, text);
+        if (out) {
+            begin_text(out, "verdict", MARGIN, y + lines * LINE_HEIGHT);
+            print_escaped(out, text, length);
+            fputs("</text>\n", out);
+        }
         text += length;
         text += *text == ' ';
     }
@@ -92,7 +115,7 @@ static uint32_t longest_bar(const struct survey *s)
 static struct layout lay_out(const struct survey *s, const char *verdict)
 {
     struct layout l = {.cells = MARGIN + LABELS, .longest = longest_bar(s)};
-    l.bars = l.cells + s->slots * PITCH + MARGIN;
+    l.bars = l.cells + s->slots * PITCH + NUMBERS;
     l.width = l.bars + BAR + COUNTS + RULES_WIDTH;
     l.width = l.width < LEAST_WIDTH ? LEAST_WIDTH : l.width;
     l.line = (l.width - 2 * MARGIN) / LETTER;
@@ -104,36 +127,61 @@ static struct layout lay_out(const struct survey *s, const char *verdict)
 
 /* ---- Above the rows */
 
-static void print_key(FILE *out, uint32_t x, uint32_t y, const char *kind, const char *sign, const char *meaning)
+static void print_rect(FILE *out, const char *class, uint32_t x, uint32_t y, uint32_t width, uint32_t height)
 {
-    fprintf(out, "<rect class=\"key %s\" x=\"%u\" y=\"%u\" width=\"%u\" height=\"%u\"/>", kind, x, y, CELL_WIDTH, CELL_HEIGHT);
-    fprintf(out, "<text class=\"in\" x=\"%u\" y=\"%u\">%s</text>", x + CELL_WIDTH / 2, y + BASELINE, sign);
-    fprintf(out, "<text x=\"%u\" y=\"%u\">%s</text>\n", x + CELL_WIDTH + 6, y + BASELINE, meaning);
+    fprintf(out, "<rect class=\"%s\" x=\"%u\" y=\"%u\" width=\"%u\" height=\"%u\"/>\n", class, x, y, width, height);
+}
+
+/* Inside a cell, so that its neighbours do not cover it. */
+static void print_mark(FILE *out, uint32_t x, uint32_t y)
+{
+    print_rect(out, "mark", x + 1, y + 1, CELL_WIDTH - 2, CELL_HEIGHT - 2);
+    print_rect(out, "inner", x + 2, y + 2, CELL_WIDTH - 4, CELL_HEIGHT - 4);
+}
+
+static void print_key(FILE *out, uint32_t place, uint32_t y, const char *class, const char *sign, const char *meaning)
+{
+    uint32_t x = MARGIN + place * KEY_WIDTH;
+    print_rect(out, class, x, y, CELL_WIDTH, CELL_HEIGHT);
+    print_text(out, "in", x + CELL_WIDTH / 2, y, sign);
+    print_text(out, "meaning", x + CELL_WIDTH + SPACE, y, meaning);
 }
 
 static void print_legend(FILE *out, uint32_t y)
 {
-    print_key(out, MARGIN, y, "free", "", "free");
-    print_key(out, MARGIN + KEY_WIDTH, y, "live", "17", "live, sector 17");
-    print_key(out, MARGIN + 2 * KEY_WIDTH, y, "dead", "", "dead");
-    print_key(out, MARGIN + 3 * KEY_WIDTH, y, "faulty", FAULT_SIGN, "faulty entry");
-    print_key(out, MARGIN + 4 * KEY_WIDTH, y, "free broken", "", "outlined: breaks a rule");
+    print_key(out, 0, y, "key free", "", "free");
+    print_key(out, 1, y, "key live", "17", "live, sector 17");
+    print_key(out, 2, y, "key dead", "", "dead");
+    print_key(out, 3, y, "key faulty", FAULT_SIGN, "faulty entry");
+    print_key(out, 4, y, "ground", "", "marked: breaks a rule");
+    print_mark(out, MARGIN + 4 * KEY_WIDTH, y);
 }
 
-static void print_head(FILE *out, const struct survey *s, const struct layout *l, const char *verdict, const char *name)
+/* The name of the file without its folders. */
+static const char *last_name(const char *path)
 {
-    fprintf(out, "<text class=\"name\" x=\"%u\" y=\"%u\">", MARGIN, MARGIN + BASELINE);
-    print_escaped(out, name);
-    fprintf(out, "</text>\n");
+    const char *name = path;
+    for (; *path != '\0'; path++)
+        if (*path == '/' || *path == '\\')
+            name = path + 1;
+    return name;
+}
+
+static void print_head(FILE *out, const struct survey *s, const struct layout *l, const char *verdict, const char *path)
+{
+    uint32_t heads = l->rows - LINE_HEIGHT;
+    begin_text(out, "name", MARGIN, MARGIN);
+    print_escaped(out, last_name(path), (l->width - 2 * MARGIN) / LARGE_LETTER);
+    fputs("</text>\n", out);
     print_lines(out, verdict, l->line, MARGIN + LINE_HEIGHT + LINE_HEIGHT / 2);
     print_legend(out, l->legend);
+    print_text(out, "corner", l->cells - SPACE, heads, "block / slot");
+    print_text(out, "meaning", l->bars, heads, "erase count");
     for (uint32_t i = 0; i < s->slots; i++)
-        fprintf(out, "<text class=\"slot\" x=\"%u\" y=\"%u\">%u</text>\n", l->cells + i * PITCH + CELL_WIDTH / 2, l->rows - 5, i);
-    fprintf(out, "<text class=\"left\" x=\"%u\" y=\"%u\">block / slot</text>\n", l->cells - 8, l->rows - 5);
-    fprintf(out, "<text x=\"%u\" y=\"%u\">erase count</text>\n", l->bars, l->rows - 5);
+        print_number(out, "slot", l->cells + i * PITCH + CELL_WIDTH / 2, heads, i);
 }
 
-/* ---- A row */
+/* ---- A cell */
 
 /* The rules that the slot breaks, as its title says them; empty if it breaks none. */
 static struct sentence faults_of_slot(const struct slot *slot)
@@ -147,32 +195,46 @@ static struct sentence faults_of_slot(const struct slot *slot)
     if (slot->kind == FAULTY)
         length += (size_t)snprintf(faults.text + length, room - length, "; breaks R4: there is no logical sector %u", slot->number);
     if (slot->is_repeat)
-        snprintf(faults.text + length, room - length, "; breaks R5: its number is live in block %u slot %u as well", slot->earlier.block,
-                 slot->earlier.slot);
+        snprintf(faults.text + length, room - length, "; breaks R5: its number is live in block %u slot %u as well", slot->first.block,
+                 slot->first.slot);
     return faults;
 }
 
-/* What stands in a cell, if something does: the number of a live slot, where it fits, or the sign of a faulty one. */
-static void print_in_cell(FILE *out, const struct slot *slot, uint32_t x, uint32_t y)
+static void print_title_of_slot(FILE *out, const struct slot *slot, struct place at, const char *faults)
 {
-    if (slot->kind == LIVE && slot->number < NUMBERS_THAT_FIT)
-        fprintf(out, "<text class=\"in\" x=\"%u\" y=\"%u\">%u</text>", x + CELL_WIDTH / 2, y + BASELINE, slot->number);
-    if (slot->kind == FAULTY)
-        fprintf(out, "<text class=\"in\" x=\"%u\" y=\"%u\">" FAULT_SIGN "</text>", x + CELL_WIDTH / 2, y + BASELINE);
-}
-
-static void print_cell(FILE *out, const struct slot *slot, struct place at, uint32_t x, uint32_t y)
-{
-    const char *kind = name_of_slot_kind(slot->kind);
-    struct sentence faults = faults_of_slot(slot);
-    fprintf(out, "<rect class=\"cell %s%s\" x=\"%u\" y=\"%u\" width=\"%u\" height=\"%u\">", kind, *faults.text == '\0' ? "" : " broken", x, y,
-            CELL_WIDTH, CELL_HEIGHT);
-    fprintf(out, "<title>block %u slot %u: %s, ", at.block, at.slot, kind);
+    fprintf(out, "<title>block %u slot %u: %s, ", at.block, at.slot, name_of_slot_kind(slot->kind));
     if (slot->kind == LIVE)
         fprintf(out, "sector %u, ", slot->number);
-    fprintf(out, "entry 0x%08X%s</title></rect>", slot->entry, faults.text);
-    print_in_cell(out, slot, x, y);
-    fputs("\n", out);
+    fprintf(out, "entry 0x%08X%s", slot->entry, faults);
+    if (slot->is_repeated)
+        fprintf(out, "; its number is live again in block %u slot %u", slot->next.block, slot->next.slot);
+    fputs("</title>", out);
+}
+
+/* With the number of a live slot: it has four digits at most, and they fit. */
+static void print_cell(FILE *out, const struct slot *slot, struct place at, uint32_t x, uint32_t y)
+{
+    struct sentence faults = faults_of_slot(slot);
+    fprintf(out, "<rect class=\"cell %s\" x=\"%u\" y=\"%u\" width=\"%u\" height=\"%u\">", name_of_slot_kind(slot->kind), x, y, CELL_WIDTH, CELL_HEIGHT);
+    print_title_of_slot(out, slot, at, faults.text);
+    fputs("</rect>\n", out);
+    if (*faults.text != '\0')
+        print_mark(out, x, y);
+    if (slot->kind == LIVE)
+        print_number(out, "in", x + CELL_WIDTH / 2, y, slot->number);
+    if (slot->kind == FAULTY)
+        print_text(out, "in", x + CELL_WIDTH / 2, y, FAULT_SIGN);
+}
+
+/* ---- A row */
+
+static void print_label(FILE *out, const struct block *block, uint32_t b, uint32_t x, uint32_t y)
+{
+    const char *kind = name_of_block_kind(block->kind);
+    begin_text(out, "label", x, y);
+    fprintf(out, "<title>block %u: %s, %u free, %u live, %u dead, %u faulty; word 1 is %s, word 2 is %s</title>%s %u</text>\n", b, kind,
+            block->count[FREE], block->count[LIVE], block->count[DEAD], block->count[FAULTY], word_in_words(block->words[LEAST_WORD]).text,
+            word_in_words(block->words[GREATEST_WORD]).text, kind, b);
 }
 
 /* In proportion to the greatest count, and never too short to be seen. A count above the ceiling has a bar of its own colour, as long as any. */
@@ -183,28 +245,50 @@ static uint32_t length_of_bar(const struct layout *l, uint32_t count)
     return 1 + (uint32_t)((uint64_t)count * (BAR - 1) / l->longest);
 }
 
-static void print_bar(FILE *out, const struct layout *l, uint32_t count, uint32_t y)
+static void print_bar(FILE *out, const struct layout *l, uint32_t b, uint32_t count, uint32_t y)
 {
-    fprintf(out, "<rect class=\"track\" x=\"%u\" y=\"%u\" width=\"%u\" height=\"%u\"/>", l->bars, y + 4, BAR, CELL_HEIGHT - 8);
-    fprintf(out, "<rect class=\"bar%s\" x=\"%u\" y=\"%u\" width=\"%u\" height=\"%u\"><title>erase count %s</title></rect>",
-            count > SHELLWALTZ_CEILING ? " over" : "", l->bars, y + 4, length_of_bar(l, count), CELL_HEIGHT - 8, word_in_words(count).text);
-    fprintf(out, "<text x=\"%u\" y=\"%u\">%s</text>\n", l->bars + BAR + 6, y + BASELINE, word_in_words(count).text);
+    const char *class = count > SHELLWALTZ_CEILING ? "bar over" : "bar";
+    print_number(out, "row", l->bars - SPACE, y, b);
+    print_rect(out, "track", l->bars, y + 4, BAR, CELL_HEIGHT - 8);
+    fprintf(out, "<rect class=\"%s\" x=\"%u\" y=\"%u\" width=\"%u\" height=\"%u\"><title>erase count %s</title></rect>\n", class, l->bars, y + 4,
+            length_of_bar(l, count), CELL_HEIGHT - 8, word_in_words(count).text);
+    print_text(out, "count", l->bars + BAR + SPACE, y, word_in_words(count).text);
 }
 
-/* What marks the bad block: a band behind its row, and its name. */
-static void print_band(FILE *out, const struct layout *l, uint32_t y)
+/* The first place of each rule that the block breaks. */
+static void print_places(FILE *out, const struct survey *s, uint32_t b)
 {
-    fprintf(out, "<rect class=\"bad\" x=\"0\" y=\"%u\" width=\"%u\" height=\"%u\"/>\n", y - 1, l->width, ROW);
+    struct sentence place;
+    const char *between = "";
+    for (uint32_t rule = 1; rule <= RULES; rule++) {
+        if (!is_broken(s, b, rule, &place))
+            continue;
+        fprintf(out, "%sR%u: ", between, rule);
+        print_escaped(out, place.text, sizeof place.text);
+        fputs(".", out);
+        between = " ";
+    }
 }
 
 static void print_rules(FILE *out, const struct survey *s, const struct layout *l, uint32_t b, bool is_bad)
 {
     struct sentence rules = rules_broken_by(s, b);
-    uint32_t x = l->bars + BAR + COUNTS, y = l->rows + b * ROW + BASELINE;
+    if (*rules.text == '\0')
+        return;
+    begin_text(out, is_bad ? "badname" : "breaks", l->bars + BAR + COUNTS, l->rows + b * ROW);
+    fputs("<title>", out);
+    print_places(out, s, b);
+    fputs("</title>", out);
     if (is_bad)
-        fprintf(out, "<text class=\"badname\" x=\"%u\" y=\"%u\">bad block %u: %s</text>\n", x, y, b, rules.text);
-    else if (*rules.text != '\0')
-        fprintf(out, "<text x=\"%u\" y=\"%u\">breaks %s</text>\n", x, y, rules.text);
+        fprintf(out, "bad block %u: %s</text>\n", b, rules.text);
+    else
+        fprintf(out, "breaks %s</text>\n", rules.text);
+}
+
+/* What marks the bad block: a band behind its row, and its name. */
+static void print_band(FILE *out, const struct layout *l, uint32_t y)
+{
+    print_rect(out, "bad", 0, y - 1, l->width, ROW);
 }
 
 static void print_row(FILE *out, const struct survey *s, const struct layout *l, uint32_t b, bool is_bad)
@@ -213,13 +297,10 @@ static void print_row(FILE *out, const struct survey *s, const struct layout *l,
     uint32_t y = l->rows + b * ROW;
     if (is_bad)
         print_band(out, l, y);
-    fprintf(out, "<text class=\"left\" x=\"%u\" y=\"%u\"><title>block %u: %s, %u free, %u live, %u dead, %u faulty; word 1 is %s, word 2 is %s</title>",
-            l->cells - 8, y + BASELINE, b, name_of_block_kind(block->kind), block->count[FREE], block->count[LIVE], block->count[DEAD],
-            block->count[FAULTY], word_in_words(block->words[LEAST_WORD]).text, word_in_words(block->words[GREATEST_WORD]).text);
-    fprintf(out, "%s %u</text>\n", name_of_block_kind(block->kind), b);
+    print_label(out, block, b, l->cells - SPACE, y);
     for (uint32_t i = 0; i < s->slots; i++)
         print_cell(out, &block->slots[i], (struct place){b, i}, l->cells + i * PITCH, y);
-    print_bar(out, l, block->words[COUNT_WORD], y);
+    print_bar(out, l, b, block->words[COUNT_WORD], y);
     print_rules(out, s, l, b, is_bad);
 }
 
@@ -229,24 +310,27 @@ static void print_rule_6(FILE *out, const struct survey *s, const struct layout 
     uint32_t b = s->part.blocks, y = l->rows + b * ROW;
     if (is_bad) {
         print_band(out, l, y);
-        fprintf(out, "<text class=\"badname\" x=\"%u\" y=\"%u\">bad block %u: R6, no block is blank</text>\n", MARGIN, y + BASELINE, b);
-    } else if (blocks_of_kind(s, BLANK) == 0)
-        fprintf(out, "<text x=\"%u\" y=\"%u\">breaks R6: no block is blank</text>\n", MARGIN, y + BASELINE);
+        begin_text(out, "badname", MARGIN, y);
+        fprintf(out, "bad block %u: R6, no block is blank</text>\n", b);
+    } else if (blocks_of_kind(s, BLANK) == 0) {
+        print_text(out, "breaks", MARGIN, y, "breaks R6: no block is blank");
+    }
 }
 
-void print_picture(FILE *out, const struct survey *s, struct shellwaltz_result check, const char *name)
+void print_picture(FILE *out, const struct survey *s, struct shellwaltz_result check, const char *path)
 {
     struct sentence verdict = verdict_of(s, check);
     struct layout l = lay_out(s, verdict.text);
     bool is_malformed = check.answer == SHELLWALTZ_MALFORMED;
-    fprintf(out, PICTURE_BEGINNING " xmlns=\"http://www.w3.org/2000/svg\" width=\"%u\" height=\"%u\" viewBox=\"0 0 %u %u\">\n", l.width, l.height,
-            l.width, l.height);
-    fputs("<title>", out);
-    print_escaped(out, name);
-    fprintf(out, "</title>\n<desc>%s</desc>\n", verdict.text);
+    fprintf(out, PICTURE_BEGINNING " xmlns=\"http://www.w3.org/2000/svg\" width=\"%u\" height=\"%u\" viewBox=\"0 0 %u %u\">\n<title>", l.width,
+            l.height, l.width, l.height);
+    print_escaped(out, path, strlen(path));
+    fputs("</title>\n<desc>", out);
+    print_escaped(out, verdict.text, sizeof verdict.text);
+    fputs("</desc>\n", out);
     fputs(style, out);
-    fprintf(out, "<rect class=\"free\" width=\"%u\" height=\"%u\"/>\n", l.width, l.height);
-    print_head(out, s, &l, verdict.text, name);
+    print_rect(out, "ground", 0, 0, l.width, l.height);
+    print_head(out, s, &l, verdict.text, path);
     for (uint32_t b = 0; b < s->part.blocks; b++)
         print_row(out, s, &l, b, is_malformed && check.bad_block == b);
     print_rule_6(out, s, &l, is_malformed && check.bad_block == s->part.blocks);

@@ -9,7 +9,7 @@
 /* How each of these pictures begins. */
 #define PICTURE_BEGINNING "<svg class=\"shellwaltz-inspect\""
 
-/* `name` is what the picture is of: the name of the file. */
-void print_picture(FILE *out, const struct survey *s, struct shellwaltz_result check, const char *name);
+/* `path` is what the picture is of: the name of the file, as it was given. */
+void print_picture(FILE *out, const struct survey *s, struct shellwaltz_result check, const char *path);
 
 #endif

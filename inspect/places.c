@@ -92,35 +92,47 @@ static bool breaks_rule_5(const struct survey *s, uint32_t b, struct sentence *p
         const struct slot *slot = &s->blocks[b].slots[i];
         if (slot->is_repeat)
             return say(place, "number %u is live in block %u slot %u and in block %u slot %u; it should be live in one slot only", slot->number,
-                       slot->earlier.block, slot->earlier.slot, b, i);
+                       slot->first.block, slot->first.slot, b, i);
     }
     return false;
 }
 
-/* The block that is nearest to blank, and its first slot that is in use. */
-static bool breaks_rule_6(const struct survey *s, uint32_t b, struct sentence *place)
+/* The block with the most free slots, and the lowest of them. */
+static uint32_t nearest_to_blank(const struct survey *s)
 {
-    uint32_t nearest = 0, i = 0;
-    (void)b;
-    for (uint32_t other = 1; other < s->part.blocks; other++)
-        if (s->blocks[other].count[FREE] > s->blocks[nearest].count[FREE])
-            nearest = other;
-    const struct block *block = &s->blocks[nearest];
+    uint32_t nearest = 0;
+    for (uint32_t b = 1; b < s->part.blocks; b++)
+        nearest = s->blocks[b].count[FREE] > s->blocks[nearest].count[FREE] ? b : nearest;
+    return nearest;
+}
+
+/* The first slot that is free, or that is not: the block has one. */
+static uint32_t first_slot(const struct block *block, bool is_free)
+{
+    uint32_t i = 0;
+    while ((block->slots[i].kind == FREE) != is_free)
+        i++;
+    return i;
+}
+
+/* No word is wrong by itself, so the block that is nearest to blank is named. */
+static bool breaks_rule_6(const struct survey *s, uint32_t past_the_last, struct sentence *place)
+{
+    uint32_t b = nearest_to_blank(s);
+    const struct block *block = &s->blocks[b];
+    (void)past_the_last;
     if (block->kind == BLANK)
         return false;
-    while (block->slots[i].kind == FREE)
-        i++;
-    return say(place, "block %u has the fewest slots in use, %u of %u, the first of them slot %u with entry 0x%08X; one block should have none",
-               nearest, s->slots - block->count[FREE], s->slots, i, block->slots[i].entry);
+    uint32_t i = first_slot(block, false);
+    return say(place, "block %u has the fewest slots in use, %u of %u, the first of them slot %u with entry 0x%08X; one block should have none", b,
+               s->slots - block->count[FREE], s->slots, i, block->slots[i].entry);
 }
 
 /* Words 1 and 2 of a block with a free slot. */
 static bool is_bounded_too_early(const struct survey *s, uint32_t b, struct sentence *place)
 {
     const struct block *block = &s->blocks[b];
-    uint32_t i = 0, word = block->words[LEAST_WORD] != ALL_ONES ? LEAST_WORD : GREATEST_WORD;
-    while (block->slots[i].kind != FREE)
-        i++;
+    uint32_t i = first_slot(block, true), word = block->words[LEAST_WORD] != ALL_ONES ? LEAST_WORD : GREATEST_WORD;
     return block->words[word] != ALL_ONES &&
            say(place, "word %u (byte 0x%lX of the file) is %s while slot %u is free; it should be 0x%X", word, byte_of(s, block->words + word),
                word_in_words(block->words[word]).text, i, ALL_ONES);
@@ -165,7 +177,7 @@ struct sentence verdict_of(const struct survey *s, struct shellwaltz_result chec
     const char *meaning = shellwaltz_rule_meaning(check.bad_rule);
     is_broken(s, check.bad_block, check.bad_rule, &place);
     if (check.answer == SHELLWALTZ_OK)
-        say(&verdict, "Well formed: %u blocks of %u sectors with %u logical sectors, and every rule holds.", s->part.blocks, s->part.sectors,
+        say(&verdict, "Well formed: every rule holds (blocks: %u, sectors of a block: %u, logical sectors: %u).", s->part.blocks, s->part.sectors,
             s->part.logical);
     else
         /* the rule's own sentence goes into this one, without its capital and its full stop */

@@ -1,7 +1,7 @@
 #include "survey.h"
 
 static const uint32_t NUMBER_BITS = 0x1FFFFFFFu;
-enum { STORED = 6 }; /* bits 31 to 29 of an entry that is valid, current and finished */
+static const uint32_t STORED = 6; /* bits 31 to 29 of an entry that is valid, current and finished */
 
 static enum slot_kind kind_of(uint32_t entry, uint32_t logical)
 {
@@ -48,11 +48,17 @@ static uint32_t first_stain(const uint32_t *contents)
 /* A live slot: whether its number was met before, in the order of blocks and slots. */
 static void meet_number(struct survey *s, struct slot *slot, struct place at)
 {
-    slot->is_repeat = s->numbers[slot->number].is_live;
-    slot->earlier = s->numbers[slot->number].first;
-    if (!slot->is_repeat)
+    struct place first = s->numbers[slot->number].first;
+    struct slot *first_slot = &s->blocks[first.block].slots[first.slot];
+    if (!s->numbers[slot->number].is_live) {
+        s->numbers[slot->number].is_live = true;
         s->numbers[slot->number].first = at;
-    s->numbers[slot->number].is_live = true;
+        return;
+    }
+    slot->is_repeat = true;
+    slot->first = first;
+    first_slot->next = first_slot->is_repeated ? first_slot->next : at;
+    first_slot->is_repeated = true;
 }
 
 static void survey_slot(struct survey *s, struct place at)
@@ -70,17 +76,21 @@ static void survey_slot(struct survey *s, struct place at)
     block->count[slot->kind]++;
 }
 
+static void survey_block(struct survey *s, uint32_t b)
+{
+    struct block *block = &s->blocks[b];
+    block->words = s->part.image + (size_t)b * s->part.sectors * SHELLWALTZ_SECTOR_WORDS;
+    for (uint32_t i = 0; i < s->slots; i++)
+        survey_slot(s, (struct place){b, i});
+    block->kind = block->count[FREE] == s->slots ? BLANK : block->count[FREE] == 0 ? FULL : OPEN;
+}
+
 void survey(struct survey *s, struct shellwaltz_part part)
 {
     *s = (struct survey){.part = part, .slots = part.sectors - 1};
     s->map_words = (s->slots + MAP_BITS - 1) / MAP_BITS;
-    for (uint32_t b = 0; b < part.blocks; b++) {
-        struct block *block = &s->blocks[b];
-        block->words = part.image + (size_t)b * part.sectors * SHELLWALTZ_SECTOR_WORDS;
-        for (uint32_t i = 0; i < s->slots; i++)
-            survey_slot(s, (struct place){b, i});
-        block->kind = block->count[FREE] == s->slots ? BLANK : block->count[FREE] == 0 ? FULL : OPEN;
-    }
+    for (uint32_t b = 0; b < part.blocks; b++)
+        survey_block(s, b);
 }
 
 uint32_t slots_of_kind(const struct survey *s, enum slot_kind kind)

@@ -8,7 +8,9 @@
 #include "../include/shellwaltz.h"
 
 enum { MOST_BLOCKS = 64, MOST_SECTORS = 64, MOST_SLOTS = MOST_SECTORS - 1, MOST_NUMBERS = SHELLWALTZ_MOST_LOGICAL(MOST_BLOCKS, MOST_SECTORS) };
-enum { COUNT_WORD = 0, LEAST_WORD = 1, GREATEST_WORD = 2, MAP_WORD = 3, MAP_BITS = 32 }; /* of a block; a map word has 32 bits */
+
+/* The words of a block: its erase count, words 1 and 2, and the first of the free map, each of which has the bits of 32 slots. */
+static const uint32_t COUNT_WORD = 0, LEAST_WORD = 1, GREATEST_WORD = 2, MAP_WORD = 3, MAP_BITS = 32;
 _Static_assert(_Generic((uint32_t)0, unsigned: 1, default: 0), "words are printed with %u and %X");
 static const uint32_t ALL_ONES = 0xFFFFFFFFu;
 
@@ -26,7 +28,9 @@ struct slot {
     bool map_bit;           /* the slot's bit in the free map */
     uint32_t first_stain;   /* of a free slot: the first word of its contents that is not all ones, or SHELLWALTZ_SECTOR_WORDS */
     bool is_repeat;         /* of a live slot: an earlier slot is live for its number too */
-    struct place earlier;   /* and the first one that is */
+    struct place first;     /* and the first one that is */
+    bool is_repeated;       /* of a live slot: it is the first for its number, and not the only one */
+    struct place next;      /* and the second one */
 };
 
 struct block {

@@ -1,8 +1,5 @@
 #include "words.h"
 
-#include <ctype.h>
-#include <string.h>
-
 enum { LINE = 16, SECTOR_BYTES = 4 * SHELLWALTZ_SECTOR_WORDS };
 
 const char *name_of_block_kind(enum block_kind kind)
@@ -44,18 +41,28 @@ static void print_table(FILE *out, const struct survey *s)
 
 /* ---- The totals */
 
+/* A count above the ceiling is no count: it would hide the wear of the others. */
 static void print_erase_counts(FILE *out, const struct survey *s)
 {
-    uint64_t sum = 0;
-    uint32_t least = 0, greatest = 0;
-    for (uint32_t b = 0; b < s->part.blocks; b++) {
-        uint32_t count = s->blocks[b].words[COUNT_WORD];
-        sum += count;
-        least = count < s->blocks[least].words[COUNT_WORD] ? b : least;
-        greatest = count > s->blocks[greatest].words[COUNT_WORD] ? b : greatest;
+    const struct block *least = NULL, *greatest = NULL;
+    uint32_t sum = 0, above = 0;
+    for (const struct block *block = s->blocks; block < s->blocks + s->part.blocks; block++) {
+        uint32_t count = block->words[COUNT_WORD];
+        bool is_above = count > SHELLWALTZ_CEILING;
+        above += is_above;
+        sum += is_above ? 0 : count;
+        least = !is_above && (!least || count < least->words[COUNT_WORD]) ? block : least;
+        greatest = !is_above && (!greatest || count > greatest->words[COUNT_WORD]) ? block : greatest;
     }
-    fprintf(out, "Erase counts: %llu in all, the least %s (block %u), the greatest %s (block %u).\n", (unsigned long long)sum,
-            word_in_words(s->blocks[least].words[COUNT_WORD]).text, least, word_in_words(s->blocks[greatest].words[COUNT_WORD]).text, greatest);
+    if (!least || !greatest) {
+        fputs("Erase counts: all of them are above the ceiling.\n", out);
+        return;
+    }
+    fprintf(out, "Erase counts: %u in all, the least %u (block %u), the greatest %u (block %u)", sum, least->words[COUNT_WORD],
+            (uint32_t)(least - s->blocks), greatest->words[COUNT_WORD], (uint32_t)(greatest - s->blocks));
+    if (above > 0)
+        fprintf(out, ", without the %u above the ceiling", above);
+    fputs(".\n", out);
 }
 
 /* Of a well-formed image: each write takes a free slot, until those of one blank block are left. */
@@ -93,7 +100,7 @@ static void print_other_faults(FILE *out, const struct survey *s, struct shellwa
         if ((block == check.bad_block && rule == check.bad_rule) || !is_broken(s, block, rule, &place))
             continue;
         fputs(is_first ? "\nAlso broken, with the first place of each:\n" : "", out);
-        fprintf(out, "B%s breaks rule %u: %s.\n", name_of_block(s, block).text + 1, rule, place.text);
+        fprintf(out, "B%s breaks rule %u: %s.\n", name_of_block(s, block).text + 1, rule, place.text); /* with a capital */
         is_first = false;
     }
 }

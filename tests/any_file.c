@@ -3,10 +3,11 @@
  *
  *     any_file SEED FILES FOLDER
  *
- * It must never do what a sanitizer stops, and what it says must be what the library says of the same words: the status, the pair of the
- * verdict (of planted faults the one that was planted), the totals, the block that the next reclaim takes (by a write on a copy), the bytes of a
- * sector, and in the picture a cell for each slot, with what its entry says, and the marks of what is bad. Files and pictures go to the folder;
- * each hundredth picture stays, as CELLS-NUMBER.svg, to be parsed. It fails too where some kind of file or some outcome never came about.
+ * It must never do what a sanitizer stops. What it says must be what the library says of the same words: the status, the pair of the
+ * verdict (of planted faults the one that was planted); and of a sound image that nothing is broken, the totals, what the next write does (by a
+ * write on a copy) and the bytes of a sector. The picture has a cell for each slot, and a mark for the bad block. Each eighth image that could be looked at stays in the
+ * folder, with the words and the picture, for tests/opinion; the file LIST says which. It fails too where some kind of file or some outcome never
+ * came about.
  *
  * The test of this test: compiled with -DSPOIL it changes an erase count in some files when it has noted what to expect, and must fail. */
 #include <stdarg.h>
@@ -21,7 +22,7 @@
 static const struct geometry geometries[] = {{2, 3, 1},   {3, 2, 1},   {64, 2, 62}, {3, 3, 3},     {4, 4, 8},      {4, 8, 16},
                                              {5, 5, 15},  {8, 16, 90}, {4, 32, 90}, {7, 33, 100},  {7, 34, 190},   {2, 64, 62},
                                              {3, 5, 7},   {5, 3, 7},   {2, 16, 14}, {16, 2, 14},   {64, 64, 3968}};
-enum { GEOMETRIES = sizeof geometries / sizeof *geometries, LARGE = GEOMETRIES - 1, LARGE_EVERY = 400, KEPT_EVERY = 100, SMALL_PICTURE = 128 };
+enum { GEOMETRIES = sizeof geometries / sizeof *geometries, LARGE = GEOMETRIES - 1, LARGE_EVERY = 1600, KEPT_EVERY = 8 };
 enum kind { SOUND, PLANTED, FLIPPED, RANDOM, CUT, TOO_LONG, OTHER_GEOMETRY, FILE_KINDS };
 enum { OUTCOMES = 3, TEXT = 1 << 17, PICTURE = 1 << 21 };
 
@@ -44,6 +45,7 @@ struct trial {
 };
 
 static const char *folder;
+static FILE *kept;
 static char file_name[512], picture_name[512], text[TEXT], complaint[TEXT], picture[PICTURE];
 static unsigned long seen_kind[FILE_KINDS], seen_status[OUTCOMES], seen_rule[RULES + 1], seen_reclaim, seen_worn, seen_sector;
 
@@ -196,22 +198,26 @@ static void must_have(const struct trial *t, const char *in, const char *format,
 
 static void hold_verdict(const struct trial *t)
 {
+    const char *past = t->check.bad_block == t->g.blocks ? ", one past the last," : "";
+    char verdict[128] = "Well formed: every rule holds (";
+    if (t->status == INSPECT_MALFORMED)
+        snprintf(verdict, sizeof verdict, "Malformed: block %u%s breaks rule %u (", (unsigned)t->check.bad_block, past, (unsigned)t->check.bad_rule);
+    if (strncmp(text, verdict, strlen(verdict)) != 0 || strstr(text, "does not see"))
+        fail(t, "the verdict is another one, or has no place");
+    if (t->status == INSPECT_SOUND && strstr(text, "\nAlso broken"))
+        fail(t, "something is broken in a sound image");
+}
+
+static void hold_totals(const struct trial *t)
+{
     struct shellwaltz_part part = part_of(t, t->image);
     struct shellwaltz_totals totals = shellwaltz_part_report(&part);
-    const char *past = t->check.bad_block == t->g.blocks ? ", one past the last," : "";
-    if (t->status == INSPECT_MALFORMED)
-        must_have(t, text, "Malformed: block %u%s breaks rule %u (", (unsigned)t->check.bad_block, past, (unsigned)t->check.bad_rule);
-    if (t->status == INSPECT_SOUND) {
-        must_have(t, text, "Well formed: ");
-        must_have(t, text, ", %u live, %u free, %u dead, 0 faulty.\n", (unsigned)totals.mapped, (unsigned)totals.free_slots, (unsigned)totals.dead);
-        must_have(t, text, "Erase counts: %u in all, ", (unsigned)totals.erase_sum);
-    }
-    if (strncmp(text, t->status == INSPECT_SOUND ? "Well formed: " : "Malformed: ", 11) != 0 || strstr(text, "does not see"))
-        fail(t, "the verdict is not first, or has no place");
+    must_have(t, text, ", %u live, %u free, %u dead, 0 faulty.\n", (unsigned)totals.mapped, (unsigned)totals.free_slots, (unsigned)totals.dead);
+    must_have(t, text, "Erase counts: %u in all, ", (unsigned)totals.erase_sum);
 }
 
 /* What a write on a copy does is what the words say of it. */
-static void hold_next_reclaim(const struct trial *t)
+static void hold_next_write(const struct trial *t)
 {
     static uint32_t copy[SHELLWALTZ_IMAGE_WORDS(64, 64)], buffer[SECTOR];
     struct shellwaltz_part part = part_of(t, copy);
@@ -228,7 +234,15 @@ static void hold_next_reclaim(const struct trial *t)
     seen_worn += wrote.answer == SHELLWALTZ_WORN_OUT;
 }
 
-/* The lines of a sector, as xxd has them. */
+/* A line as xxd has it, up to its text. */
+static void hold_line(const struct trial *t, const uint32_t *sector, uint32_t start)
+{
+    char hex[64], *at = hex;
+    for (uint32_t byte = start; byte < start + 16; byte++)
+        at += sprintf(at, "%02x%s", (unsigned)(sector[byte / 4] >> 8 * (byte % 4) & 0xFF), byte % 2 == 0 ? "" : " ");
+    must_have(t, text, "\n%08x: %s ", (unsigned)start, hex);
+}
+
 static void hold_sector(const struct trial *t)
 {
     uint32_t buffer[SECTOR];
@@ -239,96 +253,88 @@ static void hold_sector(const struct trial *t)
     }
     seen_sector++;
     must_have(t, text, "\nSector %u is in block ", (unsigned)t->number);
-    for (uint32_t line = 0; line < 32; line++) {
-        char hex[64], *at = hex;
-        for (uint32_t byte = 16 * line; byte < 16 * line + 16; byte++)
-            at += sprintf(at, "%02x%s", (unsigned)(buffer[byte / 4] >> 8 * (byte % 4) & 0xFF), byte % 2 == 0 ? "" : " ");
-        must_have(t, text, "\n%08x: %s ", (unsigned)(16 * line), hex);
-    }
+    for (uint32_t start = 0; start < 4 * SECTOR; start += 16)
+        hold_line(t, buffer, start);
 }
 
-/* Each slot's title has its entry, and the kind that the entry says. */
-static void hold_cells(const struct trial *t)
-{
-    for (uint32_t i = 0; i < t->g.blocks * slots_of(t->g); i++) {
-        uint32_t b = i / slots_of(t->g), slot = i % slots_of(t->g), entry = entries_of(t->g, block_of(t->g, t->image, b))[slot];
-        bool is_stored = entry >= LIVE && entry < LIVE + 0x20000000u, is_live = is_stored && entry < LIVE + t->g.logical;
-        char sector[32] = "";
-        if (is_live)
-            snprintf(sector, sizeof sector, " sector %u,", (unsigned)(entry - LIVE));
-        must_have(t, picture, ">block %u slot %u: %s,%s entry 0x%08X", (unsigned)b, (unsigned)slot,
-                  entry == ONES ? "free" : is_live ? "live" : is_stored ? "faulty" : "dead", sector, (unsigned)entry);
-    }
-}
-
-/* A cell for each slot; the bad block marked, and the slots that break a rule outlined, beside the one of the legend. */
-static void hold_marks(const struct trial *t)
-{
-    unsigned long outlined = count(picture, " broken\" x=") - 1;
-    if (count(picture, "<rect class=\"cell ") != t->g.blocks * slots_of(t->g) || strcmp(picture + strlen(picture) - 7, "</svg>\n") != 0)
-        fail(t, "the picture has not a cell for each slot");
-    if (count(picture, "<rect class=\"bad\"") != (t->status == INSPECT_MALFORMED))
-        fail(t, "the picture does not mark the one bad block");
-    if (t->status == INSPECT_SOUND ? outlined > 0 : t->check.bad_rule >= 3 && t->check.bad_rule <= 5 && outlined == 0)
-        fail(t, "the picture does not outline the slots that break a rule");
-    if (t->status == INSPECT_MALFORMED)
-        must_have(t, picture, "bad block %u: R%u", (unsigned)t->check.bad_block, (unsigned)t->check.bad_rule);
-}
-
-static void hold_picture(const struct trial *t, unsigned long round)
+static void hold_picture(const struct trial *t)
 {
     FILE *file = fopen(picture_name, "rb");
-    char kept[600];
     if (!file)
         fail(t, "there is no picture");
     load(file, picture, sizeof picture);
     fclose(file);
-    hold_marks(t);
-    if (t->g.blocks * slots_of(t->g) < SMALL_PICTURE)
-        hold_cells(t);
-    snprintf(kept, sizeof kept, "%s/%u-%lu.svg", folder, (unsigned)(t->g.blocks * slots_of(t->g)), round);
-    if (round % KEPT_EVERY == 0)
-        rename(picture_name, kept);
-    else
-        remove(picture_name);
+    if (count(picture, "<rect class=\"cell ") != t->g.blocks * slots_of(t->g) || strcmp(picture + strlen(picture) - 7, "</svg>\n") != 0)
+        fail(t, "the picture has not a cell for each slot");
+    if (count(picture, "<rect class=\"bad\"") != (t->status == INSPECT_MALFORMED))
+        fail(t, "the picture does not mark the one bad block");
+}
+
+/* The words go beside the image and the picture, and the three into the list. */
+static void keep(const struct trial *t, unsigned long round)
+{
+    char name[512];
+    snprintf(name, sizeof name, "%s/%lu.txt", folder, round);
+    FILE *file = fopen(name, "wb");
+    if (!file || fputs(text, file) < 0 || fclose(file) != 0)
+        fail(t, "the words cannot be kept");
+    fprintf(kept, "%lu %u %u %u %u %s\n", round, (unsigned)t->g.blocks, (unsigned)t->g.sectors, (unsigned)t->g.logical, (unsigned)t->number,
+            file_name);
+}
+
+/* What the words and the picture must be, whatever is on the image, and what they must be of a sound one. */
+static void hold(const struct trial *t)
+{
+    hold_verdict(t);
+    hold_picture(t);
+    if (t->status == INSPECT_SOUND) {
+        hold_totals(t);
+        hold_next_write(t);
+        hold_sector(t);
+    }
 }
 
 static void try_one(unsigned long round, uint32_t *image)
 {
+    snprintf(file_name, sizeof file_name, "%s/%lu.img", folder, round);
+    snprintf(picture_name, sizeof picture_name, "%s/%lu.svg", folder, round);
     struct trial t = make_trial(round, image);
+    bool is_done = t.status != INSPECT_NOT_DONE;
     save(&t);
     seen_kind[t.kind]++;
     seen_status[t.status]++;
     seen_rule[t.check.bad_rule]++;
     if (run(&t) != t.status)
         fail(&t, "another status");
-    if ((t.status == INSPECT_NOT_DONE) != (strncmp(complaint, "inspect: ", 9) == 0 && *text == '\0'))
-        fail(&t, "a file of another length has a sentence and nothing else");
-    if (t.status == INSPECT_NOT_DONE)
-        return;
-    hold_verdict(&t);
-    hold_picture(&t, round);
-    if (t.status == INSPECT_SOUND) {
-        hold_next_reclaim(&t);
-        hold_sector(&t);
+    if (is_done ? *complaint != '\0' : strncmp(complaint, "inspect: ", 9) != 0 || *text != '\0')
+        fail(&t, "a file of another length has a sentence and nothing else, and any other file has none");
+    if (is_done)
+        hold(&t);
+    if (is_done && round % KEPT_EVERY == 0) {
+        keep(&t, round);
+    } else {
+        remove(file_name);
+        remove(picture_name);
     }
 }
 
 int main(int argc, char **argv)
 {
-    if (argc != 4)
+    char name[512];
+    uint32_t *image = calloc(2 * words_of(geometries[LARGE]), 4); /* with room for what makes a file too long */
+    if (argc != 4 || !image)
         return 2;
     chance_state = strtoull(argv[1], NULL, 10);
     unsigned long files = strtoul(argv[2], NULL, 10);
-    uint32_t *image = calloc(2 * words_of(geometries[LARGE]), 4); /* room for what makes a file too long */
     folder = argv[3];
-    snprintf(file_name, sizeof file_name, "%s/part.img", folder);
-    snprintf(picture_name, sizeof picture_name, "%s/part.svg", folder);
-    for (unsigned long round = 0; image && round < files; round++)
+    snprintf(name, sizeof name, "%s/LIST", folder);
+    kept = fopen(name, "a");
+    for (unsigned long round = 0; kept && round < files; round++)
         try_one(round, image);
     free(image);
+    bool complete = kept && fclose(kept) == 0;
     printf("inspect: %lu files", files);
-    bool complete = show_counts("; sound, planted, flipped, random, cut, too long, of another geometry", seen_kind, FILE_KINDS);
+    complete &= show_counts("; sound, planted, flipped, random, cut, too long, of another geometry", seen_kind, FILE_KINDS);
     complete &= show_counts("; status 0, 1, 2", seen_status, OUTCOMES);
     complete &= show_counts("; rule 1 to 7 the answer", seen_rule + 1, RULES);
     complete &= show_counts("; the next write reclaims", &seen_reclaim, 1);

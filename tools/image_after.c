@@ -7,7 +7,7 @@
 #include <stdio.h>
 
 #include "../include/shellwaltz.h"
-#include "number.h"
+#include "../inspect/number.h"
 
 enum { WRITE = 1, RELEASE = 3, RECORD = 12 };
 
@@ -29,9 +29,8 @@ static void carry_out(const struct shellwaltz_part *part, const unsigned char *r
 
 static int leave(const struct shellwaltz_part *part)
 {
-    for (size_t w = 0; w < part->image_words; w++)
-        for (int i = 0; i < 4; i++)
-            putchar((int)(part->image[w] >> 8 * i & 0xFF));
+    for (size_t byte = 0; byte < 4 * part->image_words; byte++)
+        putchar((int)(part->image[byte / 4] >> 8 * (byte % 4) & 0xFF));
     return fflush(stdout) != 0 || ferror(stdout) != 0;
 }
 

@@ -7,8 +7,10 @@
  *
  * A line each, numbers in decimal or with 0x in hexadecimal; an empty line or one that begins with # says nothing. */
 #include <stdio.h>
+#include <stdlib.h>
+#include <string.h>
 
-#include "number.h"
+#include "../inspect/number.h"
 
 enum { MOST_WORDS = 4 };
 
