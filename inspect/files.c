@@ -4,6 +4,8 @@
 #include <stdlib.h>
 #include <string.h>
 
+#include "little_endian.h"
+
 /* The words of the file, up to as many as are wanted; how many bytes that were. */
 static size_t read_words(FILE *file, uint32_t *image, size_t words)
 {
@@ -12,7 +14,7 @@ static size_t read_words(FILE *file, uint32_t *image, size_t words)
         unsigned char b[4] = {0};
         got = fread(b, 1, 4, file);
         bytes += got;
-        image[w] = b[0] | (uint32_t)b[1] << 8 | (uint32_t)b[2] << 16 | (uint32_t)b[3] << 24;
+        image[w] = word_at(b);
     }
     return bytes;
 }
@@ -57,25 +59,25 @@ static bool has_contents(FILE *file)
 
 static bool begins_with(FILE *file, const char *beginning)
 {
-    rewind(file);
     while (*beginning != '\0' && getc(file) == (unsigned char)*beginning)
         beginning++;
     return *beginning == '\0';
 }
 
-/* One that is there already is opened for reading and writing, which waits for nobody where it is a pipe, and is emptied only when it is known
- * to be a picture. */
+/* Opened so that nothing is lost, and emptied only when it is known to be a picture. A pipe is opened once, for writing alone, and so waits for its
+ * reader. */
 FILE *open_picture(const char *name, const char *beginning, FILE *err)
 {
-    FILE *file = fopen(name, "wbx");
-    file = file ? file : fopen(name, "r+b");
-    if (file && has_contents(file) && !begins_with(file, beginning)) {
-        fprintf(err, "inspect: %s is there already and is not a picture of this tool; it is left as it is.\n", name);
-        fclose(file);
-        return NULL;
+    FILE *file = fopen(name, "ab");
+    if (file && has_contents(file)) {
+        file = freopen(name, "rb", file);
+        if (file && !begins_with(file, beginning)) {
+            fprintf(err, "inspect: %s is there already and is not a picture of this tool; it is left as it is.\n", name);
+            fclose(file);
+            return NULL;
+        }
+        file = file ? freopen(name, "wb", file) : NULL;
     }
-    if (file && has_contents(file))
-        file = freopen(name, "wb", file);
     if (!file)
         fprintf(err, "inspect: %s cannot be written: %s.\n", name, strerror(errno));
     return file;

@@ -41,7 +41,7 @@ struct layout {
 
 /* ---- Text */
 
-/* Up to `most` letters, as XML has them; what is not a printable ASCII letter becomes a question mark. */
+/* Up to `most` characters, as XML has them; what is not a printable ASCII character becomes a question mark. */
 static void print_escaped(FILE *out, const char *text, size_t most)
 {
     for (; *text != '\0' && most > 0; text++, most--)
@@ -101,20 +101,9 @@ static uint32_t print_lines(FILE *out, const char *text, uint32_t most, uint32_t
 
 /* ---- Layout */
 
-/* The greatest erase count that is not above the ceiling. */
-static uint32_t longest_bar(const struct survey *s)
-{
-    uint32_t longest = 0;
-    for (uint32_t b = 0; b < s->part.blocks; b++) {
-        uint32_t count = s->blocks[b].words[COUNT_WORD];
-        longest = count > longest && count <= SHELLWALTZ_CEILING ? count : longest;
-    }
-    return longest;
-}
-
 static struct layout lay_out(const struct survey *s, const char *verdict)
 {
-    struct layout l = {.cells = MARGIN + LABELS, .longest = longest_bar(s)};
+    struct layout l = {.cells = MARGIN + LABELS, .longest = s->blocks[wear_of(s).greatest].words[COUNT_WORD]};
     l.bars = l.cells + s->slots * PITCH + NUMBERS;
     l.width = l.bars + BAR + COUNTS + RULES_WIDTH;
     l.width = l.width < LEAST_WIDTH ? LEAST_WIDTH : l.width;
@@ -143,7 +132,8 @@ static void print_key(FILE *out, uint32_t place, uint32_t y, const char *class, 
 {
     uint32_t x = MARGIN + place * KEY_WIDTH;
     print_rect(out, class, x, y, CELL_WIDTH, CELL_HEIGHT);
-    print_text(out, "in", x + CELL_WIDTH / 2, y, sign);
+    if (*sign != '\0')
+        print_text(out, "in", x + CELL_WIDTH / 2, y, sign);
     print_text(out, "meaning", x + CELL_WIDTH + SPACE, y, meaning);
 }
 

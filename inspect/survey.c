@@ -109,6 +109,20 @@ uint32_t blocks_of_kind(const struct survey *s, enum block_kind kind)
     return sum;
 }
 
+struct wear wear_of(const struct survey *s)
+{
+    struct wear wear = {0, 0, 0, 0};
+    for (uint32_t b = 0; b < s->part.blocks; b++) {
+        uint32_t count = s->blocks[b].words[COUNT_WORD];
+        bool is_above = count > SHELLWALTZ_CEILING, is_first = wear.above == b && !is_above;
+        wear.above += is_above;
+        wear.sum += is_above ? 0 : count;
+        wear.least = is_first || (!is_above && count < s->blocks[wear.least].words[COUNT_WORD]) ? b : wear.least;
+        wear.greatest = is_first || (!is_above && count > s->blocks[wear.greatest].words[COUNT_WORD]) ? b : wear.greatest;
+    }
+    return wear;
+}
+
 bool is_full_part(const struct survey *s)
 {
     return blocks_of_kind(s, OPEN) == 0 && blocks_of_kind(s, BLANK) == 1;

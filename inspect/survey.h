@@ -67,6 +67,14 @@ unsigned long byte_of(const struct survey *s, const uint32_t *word);
 uint32_t slots_of_kind(const struct survey *s, enum slot_kind kind);
 uint32_t blocks_of_kind(const struct survey *s, enum block_kind kind);
 
+/* The erase counts. One above the ceiling is no count, and would hide the wear of the others: those are counted apart. `least` and `greatest` are
+ * the lowest blocks with those counts, and mean nothing if all are above. */
+struct wear {
+    uint32_t sum, above, least, greatest;
+};
+
+struct wear wear_of(const struct survey *s);
+
 /* Whether the next write has to reclaim a block first: rule 3 of a write. */
 bool is_full_part(const struct survey *s);
 

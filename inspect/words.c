@@ -1,5 +1,7 @@
 #include "words.h"
 
+#include "little_endian.h"
+
 enum { LINE = 16, SECTOR_BYTES = 4 * SHELLWALTZ_SECTOR_WORDS };
 
 const char *name_of_block_kind(enum block_kind kind)
@@ -41,27 +43,17 @@ static void print_table(FILE *out, const struct survey *s)
 
 /* ---- The totals */
 
-/* A count above the ceiling is no count: it would hide the wear of the others. */
 static void print_erase_counts(FILE *out, const struct survey *s)
 {
-    const struct block *least = NULL, *greatest = NULL;
-    uint32_t sum = 0, above = 0;
-    for (const struct block *block = s->blocks; block < s->blocks + s->part.blocks; block++) {
-        uint32_t count = block->words[COUNT_WORD];
-        bool is_above = count > SHELLWALTZ_CEILING;
-        above += is_above;
-        sum += is_above ? 0 : count;
-        least = !is_above && (!least || count < least->words[COUNT_WORD]) ? block : least;
-        greatest = !is_above && (!greatest || count > greatest->words[COUNT_WORD]) ? block : greatest;
-    }
-    if (!least || !greatest) {
+    struct wear wear = wear_of(s);
+    if (wear.above == s->part.blocks) {
         fputs("Erase counts: all of them are above the ceiling.\n", out);
         return;
     }
-    fprintf(out, "Erase counts: %u in all, the least %u (block %u), the greatest %u (block %u)", sum, least->words[COUNT_WORD],
-            (uint32_t)(least - s->blocks), greatest->words[COUNT_WORD], (uint32_t)(greatest - s->blocks));
-    if (above > 0)
-        fprintf(out, ", without the %u above the ceiling", above);
+    fprintf(out, "Erase counts: %u in all, the least %u (block %u), the greatest %u (block %u)", wear.sum, s->blocks[wear.least].words[COUNT_WORD],
+            wear.least, s->blocks[wear.greatest].words[COUNT_WORD], wear.greatest);
+    if (wear.above > 0)
+        fprintf(out, ", without the %u above the ceiling", wear.above);
     fputs(".\n", out);
 }
 
@@ -115,11 +107,6 @@ void print_survey(FILE *out, const struct survey *s, struct shellwaltz_result ch
 }
 
 /* ---- A sector */
-
-static unsigned char byte_in(const uint32_t *words, uint32_t byte)
-{
-    return (unsigned char)(words[byte / 4] >> 8 * (byte % 4));
-}
 
 static void print_hex_line(FILE *out, const uint32_t *words, uint32_t start)
 {

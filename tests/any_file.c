@@ -5,9 +5,9 @@
  *
  * It must never do what a sanitizer stops. What it says must be what the library says of the same words: the status, the pair of the
  * verdict (of planted faults the one that was planted); and of a sound image that nothing is broken, the totals, what the next write does (by a
- * write on a copy) and the bytes of a sector. The picture has a cell for each slot, and a mark for the bad block. Each eighth image that could be looked at stays in the
- * folder, with the words and the picture, for tests/opinion; the file LIST says which. It fails too where some kind of file or some outcome never
- * came about.
+ * write on a copy) and the bytes of a sector. The picture has a cell for each slot, and a mark for the bad block. Of each eighth file, if it could be
+ * looked at, the image, the words and the picture stay in the folder for tests/opinion; the file LIST says which. It fails too where some kind of
+ * file or some outcome never came about.
  *
  * The test of this test: compiled with -DSPOIL it changes an erase count in some files when it has noted what to expect, and must fail. */
 #include <stdarg.h>
@@ -18,6 +18,7 @@
 #include "../compare/counts.h"
 #include "../compare/faults.h"
 #include "../inspect/inspect.h"
+#include "../inspect/little_endian.h"
 
 static const struct geometry geometries[] = {{2, 3, 1},   {3, 2, 1},   {64, 2, 62}, {3, 3, 3},     {4, 4, 8},      {4, 8, 16},
                                              {5, 5, 15},  {8, 16, 90}, {4, 32, 90}, {7, 33, 100},  {7, 34, 190},   {2, 64, 62},
@@ -139,7 +140,7 @@ static void save(const struct trial *t)
         fail(t, "the file cannot be made");
     t->image[0] ^= flip;
     for (size_t i = 0; i < t->bytes; i++)
-        putc((int)(t->image[i / 4] >> 8 * (i % 4) & 0xFF), file);
+        putc(byte_in(t->image, i), file);
     t->image[0] ^= flip;
     if (fclose(file) != 0)
         fail(t, "the file cannot be written");
@@ -239,7 +240,7 @@ static void hold_line(const struct trial *t, const uint32_t *sector, uint32_t st
 {
     char hex[64], *at = hex;
     for (uint32_t byte = start; byte < start + 16; byte++)
-        at += sprintf(at, "%02x%s", (unsigned)(sector[byte / 4] >> 8 * (byte % 4) & 0xFF), byte % 2 == 0 ? "" : " ");
+        at += sprintf(at, "%02x%s", (unsigned)byte_in(sector, byte), byte % 2 == 0 ? "" : " ");
     must_have(t, text, "\n%08x: %s ", (unsigned)start, hex);
 }
 

@@ -7,20 +7,16 @@
 #include <stdio.h>
 
 #include "../include/shellwaltz.h"
+#include "../inspect/little_endian.h"
 #include "../inspect/number.h"
 
 enum { WRITE = 1, RELEASE = 3, RECORD = 12 };
 
-static uint32_t little_endian(const unsigned char *bytes)
-{
-    return bytes[0] | (uint32_t)bytes[1] << 8 | (uint32_t)bytes[2] << 16 | (uint32_t)bytes[3] << 24;
-}
-
 static void carry_out(const struct shellwaltz_part *part, const unsigned char *record)
 {
-    uint32_t operation = little_endian(record), number = little_endian(record + 4), buffer[SHELLWALTZ_SECTOR_WORDS];
+    uint32_t operation = word_at(record), number = word_at(record + 4), buffer[SHELLWALTZ_SECTOR_WORDS];
     for (uint32_t i = 0; i < SHELLWALTZ_SECTOR_WORDS; i++)
-        buffer[i] = little_endian(record + 8);
+        buffer[i] = word_at(record + 8);
     if (operation == WRITE)
         shellwaltz_part_write(part, number, buffer);
     if (operation == RELEASE)
@@ -30,7 +26,7 @@ static void carry_out(const struct shellwaltz_part *part, const unsigned char *r
 static int leave(const struct shellwaltz_part *part)
 {
     for (size_t byte = 0; byte < 4 * part->image_words; byte++)
-        putchar((int)(part->image[byte / 4] >> 8 * (byte % 4) & 0xFF));
+        putchar(byte_in(part->image, byte));
     return fflush(stdout) != 0 || ferror(stdout) != 0;
 }
 

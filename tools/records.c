@@ -10,6 +10,7 @@
 #include <stdlib.h>
 #include <string.h>
 
+#include "../inspect/little_endian.h"
 #include "../inspect/number.h"
 
 enum { MOST_WORDS = 4 };
@@ -32,8 +33,8 @@ static uint32_t number(const char *word)
 
 static void put(uint32_t value)
 {
-    for (int i = 0; i < 4; i++)
-        putchar((int)(value >> 8 * i & 0xFF));
+    for (size_t i = 0; i < 4; i++)
+        putchar(byte_in(&value, i));
 }
 
 /* The words of a line; their number. */
