@@ -81,7 +81,7 @@ static void make_random(struct trial *t)
         t->image[w] = any_bytes ? (uint32_t)chance() : odd_word(t->g);
 }
 
-/* The length of a file that has not the right one, or by chance has. */
+/* The length of the file: an image's, but for those that are cut or too long. */
 static void set_length(struct trial *t)
 {
     size_t bytes = 4 * words_of(t->g);
