@@ -28,6 +28,8 @@
 _Static_assert(SECOND_MOST_LOGICAL == (SECOND_MOST_BLOCKS - 1u) *
                (SECOND_MOST_SECTORS - 1u) - 1u, "largest L");
 _Static_assert(MARK_WORDS * 32u == SECOND_MOST_LOGICAL, "a mark for each");
+_Static_assert(SECOND_MOST_BLOCKS * (SECOND_MOST_SECTORS - 1u) <=
+               SECOND_NO_SLOT, "no slot is taken for none");
 
 struct spot {
     uint32_t block;
@@ -282,16 +284,61 @@ static bool well_formed(struct second_geometry g, const uint32_t *image,
     return first.rule == 0u;
 }
 
+/* ---- The table --------------------------------------------------------- */
+
+/* A call without a table goes the way of the one with.  It hands this on, told
+ * to be of the length that is asked, so that it is never refused for that. */
+#define NO_TABLE NULL
+
+static bool table_fits(struct second_geometry g, size_t table_words)
+{
+    return table_words == g.logical;
+}
+
+static uint16_t table_word(struct second_geometry g, struct spot at)
+{
+    return (uint16_t)(at.block * second_slots(g) + at.slot);
+}
+
+static void note(uint16_t *table, uint32_t number, uint16_t word)
+{
+    if (table != NO_TABLE)
+        table[number] = word;
+}
+
+/* True when the number is live where the table says.  Nothing vouches for the
+ * table, so it is the entry there that decides. */
+static bool table_holds(struct second_geometry g, const uint32_t *image,
+                        uint32_t number, const uint16_t *table,
+                        struct spot *at)
+{
+    uint32_t slots = second_slots(g);
+    struct spot told;
+
+    if (table == NO_TABLE)
+        return false;
+    told = (struct spot){table[number] / slots, table[number] % slots};
+    if (told.block >= g.blocks) /* as it is for the word that means none */
+        return false;
+    *at = told;
+    return image[entry_place(g, told)] == (STATE_LIVE | number);
+}
+
 /* ---- Looking into a well-formed image ---------------------------------- */
 
-/* Where the number is live; R5 lets that be one slot at most. */
+/* Where the number is live; R5 lets that be one slot at most.  So a slot that
+ * the table points out is the one that the search would find.  That there is
+ * none only the search can tell. */
 static bool find_live(struct second_geometry g, const uint32_t *image,
-                      uint32_t number, struct spot *at)
+                      uint32_t number, const uint16_t *table,
+                      struct spot *at)
 {
     uint32_t slots = second_slots(g);
     uint32_t block;
     uint32_t slot;
 
+    if (table_holds(g, image, number, table, at))
+        return true;
     for (block = 0; block < g.blocks; block++) {
         const uint32_t *entries =
             image + entry_place(g, (struct spot){block, 0});
@@ -472,7 +519,7 @@ static uint32_t choose_victim(struct second_geometry g, const uint32_t *image)
  * The blank block keeps a free slot: L is below the slots of the full blocks,
  * so the victim has a dead one. */
 static void reclaim(struct second_geometry g, uint32_t *image, uint32_t victim,
-                    uint32_t blank, struct tally *done)
+                    uint32_t blank, uint16_t *table, struct tally *done)
 {
     uint32_t *head = image + block_place(g, victim);
     uint32_t count = head[ERASE_COUNT];
@@ -484,8 +531,11 @@ static void reclaim(struct second_geometry g, uint32_t *image, uint32_t victim,
         uint32_t *old = image + entry_place(g, from);
 
         if (looks_live(*old)) {
-            place(g, image, to, *old & NUMBER_MASK,
-                  image + content_place(g, from), old, done);
+            uint32_t number = *old & NUMBER_MASK;
+
+            place(g, image, to, number, image + content_place(g, from), old,
+                  done);
+            note(table, number, table_word(g, to));
             to.slot++;
         }
     }
@@ -496,7 +546,7 @@ static void reclaim(struct second_geometry g, uint32_t *image, uint32_t victim,
 /* The write in a well-formed image: done, or refused before its first step. */
 static uint32_t write_number(struct second_geometry g, uint32_t *image,
                              uint32_t number, const uint32_t *data,
-                             struct tally *done)
+                             uint16_t *table, struct tally *done)
 {
     struct survey seen = survey_blocks(g, image);
     struct spot to;
@@ -508,7 +558,7 @@ static uint32_t write_number(struct second_geometry g, uint32_t *image,
 
         if (image[block_place(g, victim) + ERASE_COUNT] == SECOND_CEILING)
             return SECOND_WORN_OUT;
-        reclaim(g, image, victim, seen.best_blank, done);
+        reclaim(g, image, victim, seen.best_blank, table, done);
         seen = survey_blocks(g, image);
     }
     if (seen.open_blocks > 0u)
@@ -518,17 +568,21 @@ static uint32_t write_number(struct second_geometry g, uint32_t *image,
         to = (struct spot){seen.best_blank, 0};
 
     /* Only now: the reclaim may have moved the old slot. */
-    old = find_live(g, image, number, &at) ? image + entry_place(g, at) : NULL;
+    old = find_live(g, image, number, table, &at) ? image + entry_place(g, at)
+                                                  : NULL;
     place(g, image, to, number, data, old, done);
+    note(table, number, table_word(g, to));
     return SECOND_OK;
 }
 
-uint32_t second_write(uint32_t blocks, uint32_t sectors, uint32_t logical,
-                      uint32_t *image, size_t image_words,
-                      uint32_t number, const uint32_t *buffer,
-                      size_t buffer_words,
-                      uint32_t *words, uint32_t *erasures,
-                      uint32_t *bad_block, uint32_t *bad_rule)
+uint32_t second_write_with_table(uint32_t blocks, uint32_t sectors,
+                                 uint32_t logical,
+                                 uint32_t *image, size_t image_words,
+                                 uint32_t number, const uint32_t *buffer,
+                                 size_t buffer_words,
+                                 uint16_t *table, size_t table_words,
+                                 uint32_t *words, uint32_t *erasures,
+                                 uint32_t *bad_block, uint32_t *bad_rule)
 {
     struct second_geometry g = {blocks, sectors, logical};
     struct tally done = {0, 0};
@@ -540,17 +594,30 @@ uint32_t second_write(uint32_t blocks, uint32_t sectors, uint32_t logical,
     *bad_rule = 0;
     if (!image_fits(g, image_words))
         return SECOND_BAD_GEOMETRY;
-    if (buffer_words != SECOND_SECTOR_WORDS)
+    if (buffer_words != SECOND_SECTOR_WORDS || !table_fits(g, table_words))
         return SECOND_BAD_BUFFER;
     if (number >= logical)
         return SECOND_BAD_NUMBER;
     if (!well_formed(g, image, bad_block, bad_rule))
         return SECOND_BAD_IMAGE;
 
-    answer = write_number(g, image, number, buffer, &done);
+    answer = write_number(g, image, number, buffer, table, &done);
     *words = (uint32_t)done.words;
     *erasures = (uint32_t)done.erasures;
     return answer;
+}
+
+uint32_t second_write(uint32_t blocks, uint32_t sectors, uint32_t logical,
+                      uint32_t *image, size_t image_words,
+                      uint32_t number, const uint32_t *buffer,
+                      size_t buffer_words,
+                      uint32_t *words, uint32_t *erasures,
+                      uint32_t *bad_block, uint32_t *bad_rule)
+{
+    return second_write_with_table(blocks, sectors, logical, image,
+                                   image_words, number, buffer, buffer_words,
+                                   NO_TABLE, logical, words, erasures,
+                                   bad_block, bad_rule);
 }
 
 /* ---- The other calls --------------------------------------------------- */
@@ -621,10 +688,11 @@ uint32_t second_report(uint32_t blocks, uint32_t sectors, uint32_t logical,
     return SECOND_OK;
 }
 
-uint32_t second_read(uint32_t blocks, uint32_t sectors, uint32_t logical,
-                     const uint32_t *image, size_t image_words,
-                     uint32_t number, uint32_t *buffer, size_t buffer_words,
-                     uint32_t *bad_block, uint32_t *bad_rule)
+uint32_t second_build_table(uint32_t blocks, uint32_t sectors,
+                            uint32_t logical,
+                            const uint32_t *image, size_t image_words,
+                            uint16_t *table, size_t table_words,
+                            uint32_t *bad_block, uint32_t *bad_rule)
 {
     struct second_geometry g = {blocks, sectors, logical};
     struct spot at;
@@ -633,13 +701,45 @@ uint32_t second_read(uint32_t blocks, uint32_t sectors, uint32_t logical,
     *bad_rule = 0;
     if (!image_fits(g, image_words))
         return SECOND_BAD_GEOMETRY;
-    if (buffer_words != SECOND_SECTOR_WORDS)
+    if (!table_fits(g, table_words))
+        return SECOND_BAD_BUFFER;
+    if (!well_formed(g, image, bad_block, bad_rule))
+        return SECOND_BAD_IMAGE;
+
+    for (uint32_t number = 0; number < logical; number++)
+        table[number] = SECOND_NO_SLOT;
+    for (at.block = 0; at.block < blocks; at.block++)
+        for (at.slot = 0; at.slot < second_slots(g); at.slot++) {
+            uint32_t entry = image[entry_place(g, at)];
+
+            if (looks_live(entry))
+                table[entry & NUMBER_MASK] = table_word(g, at);
+        }
+    return SECOND_OK;
+}
+
+uint32_t second_read_with_table(uint32_t blocks, uint32_t sectors,
+                                uint32_t logical,
+                                const uint32_t *image, size_t image_words,
+                                uint32_t number, uint32_t *buffer,
+                                size_t buffer_words,
+                                const uint16_t *table, size_t table_words,
+                                uint32_t *bad_block, uint32_t *bad_rule)
+{
+    struct second_geometry g = {blocks, sectors, logical};
+    struct spot at;
+
+    *bad_block = 0;
+    *bad_rule = 0;
+    if (!image_fits(g, image_words))
+        return SECOND_BAD_GEOMETRY;
+    if (buffer_words != SECOND_SECTOR_WORDS || !table_fits(g, table_words))
         return SECOND_BAD_BUFFER;
     if (number >= logical)
         return SECOND_BAD_NUMBER;
     if (!well_formed(g, image, bad_block, bad_rule))
         return SECOND_BAD_IMAGE;
-    if (!find_live(g, image, number, &at))
+    if (!find_live(g, image, number, table, &at))
         return SECOND_NOT_MAPPED;
 
     memcpy(buffer, image + content_place(g, at),
@@ -647,11 +747,23 @@ uint32_t second_read(uint32_t blocks, uint32_t sectors, uint32_t logical,
     return SECOND_OK;
 }
 
-uint32_t second_release(uint32_t blocks, uint32_t sectors, uint32_t logical,
-                        uint32_t *image, size_t image_words,
-                        uint32_t number,
-                        uint32_t *words, uint32_t *erasures,
-                        uint32_t *bad_block, uint32_t *bad_rule)
+uint32_t second_read(uint32_t blocks, uint32_t sectors, uint32_t logical,
+                     const uint32_t *image, size_t image_words,
+                     uint32_t number, uint32_t *buffer, size_t buffer_words,
+                     uint32_t *bad_block, uint32_t *bad_rule)
+{
+    return second_read_with_table(blocks, sectors, logical, image,
+                                  image_words, number, buffer, buffer_words,
+                                  NO_TABLE, logical, bad_block, bad_rule);
+}
+
+uint32_t second_release_with_table(uint32_t blocks, uint32_t sectors,
+                                   uint32_t logical,
+                                   uint32_t *image, size_t image_words,
+                                   uint32_t number,
+                                   uint16_t *table, size_t table_words,
+                                   uint32_t *words, uint32_t *erasures,
+                                   uint32_t *bad_block, uint32_t *bad_rule)
 {
     struct second_geometry g = {blocks, sectors, logical};
     struct tally done = {0, 0};
@@ -664,17 +776,31 @@ uint32_t second_release(uint32_t blocks, uint32_t sectors, uint32_t logical,
     *bad_rule = 0;
     if (!image_fits(g, image_words))
         return SECOND_BAD_GEOMETRY;
+    if (!table_fits(g, table_words))
+        return SECOND_BAD_BUFFER;
     if (number >= logical)
         return SECOND_BAD_NUMBER;
     if (!well_formed(g, image, bad_block, bad_rule))
         return SECOND_BAD_IMAGE;
-    if (!find_live(g, image, number, &at))
+    if (!find_live(g, image, number, table, &at))
         return SECOND_NOT_MAPPED;
 
     entry = image + entry_place(g, at);
     program(&done, entry, *entry & ~VALID_BIT);
+    note(table, number, SECOND_NO_SLOT);
 
     *words = (uint32_t)done.words;
     *erasures = (uint32_t)done.erasures;
     return SECOND_OK;
+}
+
+uint32_t second_release(uint32_t blocks, uint32_t sectors, uint32_t logical,
+                        uint32_t *image, size_t image_words,
+                        uint32_t number,
+                        uint32_t *words, uint32_t *erasures,
+                        uint32_t *bad_block, uint32_t *bad_rule)
+{
+    return second_release_with_table(blocks, sectors, logical, image,
+                                     image_words, number, NO_TABLE, logical,
+                                     words, erasures, bad_block, bad_rule);
 }

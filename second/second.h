@@ -1,12 +1,14 @@
 /* NOR sector layer over a lent image of 32-bit words.
  *
- * The image, the sector buffer and the places for what a call tells beside
- * its answer belong to the caller; nothing is kept between calls.  A pointer
- * must be good for the length handed in with it, those places must be good,
- * and no two of the regions may overlap.  The numbers may have any value.
+ * The image, the sector buffer, the table and the places for what a call
+ * tells beside its answer belong to the caller; nothing is kept between
+ * calls.  A pointer must be good for the length handed in with it, those
+ * places must be good, and no two of the regions may overlap.  The numbers
+ * and the words of the regions may have any value.
  *
  * Every call answers 0 or the first refusal that applies.  A refused call
- * changes no word of the image or of the buffer and reports zeros.
+ * changes no word of the image, of the buffer or of the table and reports
+ * zeros.
  *
  * The calls that look at the image also name its first fault.  Beside the
  * answer 4, bad_rule is the rule that is broken, 1 to 7, and bad_block the
@@ -14,7 +16,19 @@
  * its faults lie in it, the lowest of the rules it breaks.  A number live in
  * two slots is charged to the block of the second.  Rule 6 is no single
  * block's: it is named when every block is faultless, and then bad_block is
- * the number of blocks.  Beside every other answer both are 0. */
+ * the number of blocks.  Beside every other answer both are 0.
+ *
+ * The table has a 16-bit word for each logical number.  The slots count
+ * through the image, block by block, and the word is how many come before the
+ * one where the number is live, or SECOND_NO_SLOT while there is none.  The
+ * calls that take a table differ from their namesakes in nothing that those
+ * answer, report or leave behind, however wrong the table is; a right one
+ * spares them the search for a live number.  second_build_table sets every
+ * word.  A write sets the words of the number written and of those it had to
+ * move, a release that of the number released, a read none; whatever the other
+ * words hold is kept.  So a right table stays right as long as every write and
+ * release is given it; after one that was not, and after a format, it wants
+ * building again. */
 #ifndef SECOND_H
 #define SECOND_H
 
@@ -30,10 +44,12 @@
 /* (64 - 1) * (64 - 1) - 1, the largest number of logical sectors. */
 #define SECOND_MOST_LOGICAL 3968u
 #define SECOND_CEILING 1000000u
+/* In a table: the number is live nowhere. */
+#define SECOND_NO_SLOT UINT16_C(0xFFFF)
 
 #define SECOND_OK 0u
 #define SECOND_BAD_GEOMETRY 1u
-#define SECOND_BAD_BUFFER 2u
+#define SECOND_BAD_BUFFER 2u /* or a table of another length */
 #define SECOND_BAD_NUMBER 3u
 #define SECOND_BAD_IMAGE 4u
 #define SECOND_NOT_MAPPED 5u
@@ -85,5 +101,36 @@ uint32_t second_release(uint32_t blocks, uint32_t sectors, uint32_t logical,
                         uint32_t number,
                         uint32_t *words, uint32_t *erasures,
                         uint32_t *bad_block, uint32_t *bad_rule);
+
+uint32_t second_build_table(uint32_t blocks, uint32_t sectors,
+                            uint32_t logical,
+                            const uint32_t *image, size_t image_words,
+                            uint16_t *table, size_t table_words,
+                            uint32_t *bad_block, uint32_t *bad_rule);
+
+uint32_t second_read_with_table(uint32_t blocks, uint32_t sectors,
+                                uint32_t logical,
+                                const uint32_t *image, size_t image_words,
+                                uint32_t number, uint32_t *buffer,
+                                size_t buffer_words,
+                                const uint16_t *table, size_t table_words,
+                                uint32_t *bad_block, uint32_t *bad_rule);
+
+uint32_t second_write_with_table(uint32_t blocks, uint32_t sectors,
+                                 uint32_t logical,
+                                 uint32_t *image, size_t image_words,
+                                 uint32_t number, const uint32_t *buffer,
+                                 size_t buffer_words,
+                                 uint16_t *table, size_t table_words,
+                                 uint32_t *words, uint32_t *erasures,
+                                 uint32_t *bad_block, uint32_t *bad_rule);
+
+uint32_t second_release_with_table(uint32_t blocks, uint32_t sectors,
+                                   uint32_t logical,
+                                   uint32_t *image, size_t image_words,
+                                   uint32_t number,
+                                   uint16_t *table, size_t table_words,
+                                   uint32_t *words, uint32_t *erasures,
+                                   uint32_t *bad_block, uint32_t *bad_rule);
 
 #endif

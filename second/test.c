@@ -1,7 +1,7 @@
 /* Tests.  Beside the library stand a slow check that asks each rule of each
  * block by itself, a second account of write and release that stores results
- * instead of taking steps, and a plain array of what every sector ought to
- * hold. */
+ * instead of taking steps, a plain array of what every sector ought to hold,
+ * and a walk over all slots that tells what a table ought to say. */
 #include "second.h"
 
 #include <stdio.h>
@@ -1822,6 +1822,934 @@ static void test_damaged_images(void)
         CHECK(alone[rule] > 100 && (rule == 6 || before_others[rule] > 10));
 }
 
+/* ---- The table beside the image ----------------------------------------- */
+
+#define NONE UINT16_C(0xFFFF) /* the word of a number that is not mapped */
+
+/* Exactly as long as the table, so that a step outside is caught. */
+static uint16_t *lend_table(size_t table_words)
+{
+    uint16_t *table = malloc(table_words ? table_words * sizeof *table : 1);
+
+    if (!table)
+        abort();
+    return table;
+}
+
+static uint16_t *random_table(size_t table_words)
+{
+    uint16_t *table = lend_table(table_words);
+
+    for (size_t i = 0; i < table_words; i++)
+        table[i] = (uint16_t)rnd();
+    return table;
+}
+
+static uint16_t *copy_of_table(size_t table_words, const uint16_t *table)
+{
+    return memcpy(lend_table(table_words), table,
+                  table_words * sizeof *table);
+}
+
+static bool same_table(size_t table_words, const uint16_t *a,
+                       const uint16_t *b)
+{
+    return memcmp(a, b, table_words * sizeof *a) == 0;
+}
+
+/* The walk: slots are numbered through the image. */
+static uint16_t *right_table(struct shape g, uint32_t *im)
+{
+    uint16_t *table = lend_table(g.l);
+    uint32_t d = d_of(g);
+
+    for (uint32_t n = 0; n < g.l; n++)
+        table[n] = NONE;
+    for (uint32_t p = 0; p < g.b * d; p++) {
+        uint32_t e = *entry_of(g, im, p / d, p % d);
+
+        if (kind_of(g, e) == LIVING)
+            table[number_of(e)] = (uint16_t)p;
+    }
+    return table;
+}
+
+static bool is_right(struct shape g, uint32_t *im, const uint16_t *table)
+{
+    uint16_t *right = right_table(g, im);
+    bool good = same_table(g.l, table, right);
+
+    free(right);
+    return good;
+}
+
+/* What a call does to a table, from the images before it and after it: a
+ * number that was placed or released is not where it was, and its word is set;
+ * all others are where they were, and their words keep what they had. */
+static void carry(struct shape g, uint32_t *before, uint32_t *after,
+                  uint16_t *table)
+{
+    uint16_t *was = right_table(g, before), *is = right_table(g, after);
+
+    for (uint32_t n = 0; n < g.l; n++)
+        if (was[n] != is[n])
+            table[n] = is[n];
+    free(was);
+    free(is);
+}
+
+enum call { BUILD, READ, WRITE, RELEASE, CALLS };
+
+/* The buffer is 128 words whatever is told of it. */
+static uint32_t call_with(enum call c, struct lent a, uint32_t *buffer,
+                          uint16_t *table, size_t table_words)
+{
+    struct shape g = a.g;
+
+    poison();
+    if (c == BUILD || c == READ)
+        words = erasures = 0; /* as if reported */
+    switch (c) {
+    case BUILD:
+        return second_build_table(g.b, g.s, g.l, a.im, a.im_words, table,
+                                  table_words, &bad.block, &bad.rule);
+    case READ:
+        return second_read_with_table(g.b, g.s, g.l, a.im, a.im_words,
+                                      a.number, buffer, a.buffer_words, table,
+                                      table_words, &bad.block, &bad.rule);
+    case WRITE:
+        return second_write_with_table(g.b, g.s, g.l, a.im, a.im_words,
+                                       a.number, buffer, a.buffer_words, table,
+                                       table_words, &words, &erasures,
+                                       &bad.block, &bad.rule);
+    default:
+        return second_release_with_table(g.b, g.s, g.l, a.im, a.im_words,
+                                         a.number, table, table_words, &words,
+                                         &erasures, &bad.block, &bad.rule);
+    }
+}
+
+/* The namesake without a table.  Of building that is the check: it refuses
+ * alike, and it does nothing either to the image and the buffer. */
+static uint32_t call_without(enum call c, struct lent a, uint32_t *buffer)
+{
+    struct shape g = a.g;
+    uint32_t answer;
+
+    switch (c) {
+    case BUILD: answer = do_check(g, a.im); break;
+    case READ: answer = do_read(g, a.im, a.number, buffer); break;
+    case WRITE: answer = do_write(g, a.im, a.number, buffer); break;
+    default: answer = do_release(g, a.im, a.number); break;
+    }
+    if (c == BUILD || c == READ)
+        words = erasures = 0;
+    return answer;
+}
+
+static uint32_t do_build(struct shape g, uint32_t *im, uint16_t *table)
+{
+    struct lent a = {g, im, len_of(g), 0, 128};
+
+    return judged(g, im, call_with(BUILD, a, NULL, table, g.l));
+}
+
+static uint32_t do_read_with(struct shape g, uint32_t *im, uint32_t n,
+                             uint32_t *buffer, uint16_t *table)
+{
+    struct lent a = {g, im, len_of(g), n, 128};
+
+    return judged(g, im, call_with(READ, a, buffer, table, g.l));
+}
+
+static uint32_t do_fill_with(struct shape g, uint32_t *im, uint32_t n,
+                             uint32_t fill, uint16_t *table)
+{
+    struct lent a = {g, im, len_of(g), n, 128};
+    uint32_t buffer[SECTOR];
+
+    for (uint32_t i = 0; i < 128; i++)
+        buffer[i] = fill;
+    return judged(g, im, call_with(WRITE, a, buffer, table, g.l));
+}
+
+static uint32_t do_release_with(struct shape g, uint32_t *im, uint32_t n,
+                                uint16_t *table)
+{
+    struct lent a = {g, im, len_of(g), n, 128};
+
+    return judged(g, im, call_with(RELEASE, a, NULL, table, g.l));
+}
+
+/* Every word of the table, written out. */
+#define TABLE_IS(...) \
+    (sizeof (const uint16_t[]){__VA_ARGS__} == g.l * sizeof *table && \
+     same_table(g.l, table, (const uint16_t[]){__VA_ARGS__}))
+
+/* ---- Building it -------------------------------------------------------- */
+
+static void test_build_fresh(struct shape g)
+{
+    uint32_t *im = fresh(g), *was = copy_of(g, im);
+    uint16_t *table = random_table(g.l);
+
+    CHECK(do_build(g, im, table) == 0 && same(g, im, was));
+    for (uint32_t n = 0; n < g.l; n++)
+        CHECK(table[n] == NONE);
+    free(im);
+    free(was);
+    free(table);
+}
+
+static void test_build_by_hand(void)
+{
+    struct shape g = {3, 5, 7};
+    uint32_t *im = fresh(g), *was;
+    uint16_t *table = random_table(g.l);
+
+    seat(g, im, 0, 0, 0x00000005); /* dead, and live in the slot after it */
+    seat(g, im, 0, 1, LIVE + 5);
+    seat(g, im, 0, 3, LIVE + 0); /* behind a hole */
+    for (uint32_t s = 0; s < 4; s++) /* full, the last not complete */
+        seat(g, im, 2, s, s < 3 ? LIVE + 6 - 2 * s : 0xE0000003);
+    head_of(g, im, 2)[1] = 2;
+    head_of(g, im, 2)[2] = 6;
+    was = copy_of(g, im);
+    CHECK(do_build(g, im, table) == 0 && same(g, im, was));
+    CHECK(TABLE_IS(3, NONE, 10, NONE, 9, 1, 8));
+
+    *entry_of(g, im, 0, 3) = 0x40000000; /* released */
+    *entry_of(g, im, 2, 3) = LIVE + 3;   /* completed */
+    *entry_of(g, im, 0, 0) = LIVE + 1;
+    CHECK(do_build(g, im, table) == 0);
+    CHECK(TABLE_IS(NONE, 0, 10, 11, 9, 1, 8));
+
+    *map_of(g, im, 1, 0) = 0; /* no more a sound image */
+    CHECK(do_build(g, im, table) == 4 && bad_is((struct pair){1, 2}));
+    CHECK(TABLE_IS(NONE, 0, 10, 11, 9, 1, 8));
+    free(im);
+    free(was);
+    free(table);
+}
+
+/* The least and the greatest of numbers and slots, where there are most. */
+static void test_build_largest(void)
+{
+    struct shape g = {64, 64, 3968};
+    uint32_t *im = fresh(g);
+    uint16_t *table = random_table(g.l);
+
+    seat(g, im, 63, 62, LIVE + 0);
+    seat(g, im, 0, 0, LIVE + 3967);
+    seat(g, im, 1, 0, LIVE + 3966);
+    seat(g, im, 0, 62, LIVE + 1);
+    CHECK(do_build(g, im, table) == 0);
+    CHECK(table[0] == 4031 && table[1] == 62 && table[3966] == 63);
+    CHECK(table[3967] == 0 && is_right(g, im, table));
+    free(im);
+    free(table);
+}
+
+/* ---- Keeping it: P6 to P9 and others by hand ---------------------------- */
+
+static void test_table_p6_p7_p8(void)
+{
+    struct shape g = {3, 5, 7};
+    uint32_t *im = fresh(g);
+    uint16_t *table = random_table(g.l);
+    uint32_t got[SECTOR];
+
+    CHECK(do_build(g, im, table) == 0);
+    CHECK(do_fill_with(g, im, 5, 1, table) == 0 && counts_are(131, 0));
+    CHECK(TABLE_IS(NONE, NONE, NONE, NONE, NONE, 0, NONE));
+    CHECK(do_fill_with(g, im, 5, 2, table) == 0 && counts_are(133, 0));
+    CHECK(TABLE_IS(NONE, NONE, NONE, NONE, NONE, 1, NONE));
+    CHECK(do_read_with(g, im, 5, got, table) == 0 && all_are(got, 128, 2));
+    CHECK(do_read_with(g, im, 6, got, table) == 5 && all_are(got, 128, 2));
+    CHECK(do_fill_with(g, im, 0, 3, table) == 0 && counts_are(131, 0));
+    CHECK(TABLE_IS(2, NONE, NONE, NONE, NONE, 1, NONE));
+    CHECK(do_release_with(g, im, 5, table) == 0 && counts_are(1, 0));
+    CHECK(TABLE_IS(2, NONE, NONE, NONE, NONE, NONE, NONE));
+    CHECK(do_release_with(g, im, 5, table) == 5 && counts_are(0, 0));
+    CHECK(do_read_with(g, im, 5, got, table) == 5 && all_are(got, 128, 2));
+    CHECK(TABLE_IS(2, NONE, NONE, NONE, NONE, NONE, NONE));
+    free(im);
+    free(table);
+}
+
+/* From the third write on the number is moved before it is placed. */
+static void test_table_p9(void)
+{
+    static const uint16_t slots[5] = {0, 1, 3, 1, 3};
+    static const uint32_t costs[5] = {131, 135, 269, 269, 269};
+    struct shape g = {2, 3, 1};
+    uint32_t *im = fresh(g);
+    uint16_t *table = random_table(g.l);
+
+    for (uint32_t i = 0; i < 5; i++) {
+        table[0] = (uint16_t)rnd();
+        CHECK(do_fill_with(g, im, 0, i, table) == 0);
+        CHECK(counts_are(costs[i], i < 2 ? 0 : 1) && TABLE_IS(slots[i]));
+    }
+    free(im);
+    free(table);
+}
+
+static void test_table_106_writes(void)
+{
+    struct shape g = {8, 16, 90};
+    uint32_t *im = fresh(g);
+    uint16_t *table = random_table(g.l);
+
+    CHECK(do_build(g, im, table) == 0);
+    for (uint32_t i = 0; i < 106; i++) {
+        CHECK(do_fill_with(g, im, 0, i, table) == 0 && table[0] == i);
+        CHECK(erasures == (i < 105 ? 0u : 1u));
+    }
+    CHECK(counts_are(134, 1) && is_right(g, im, table));
+    free(im);
+    free(table);
+}
+
+/* Number 4 moves from block 0 to the blank block 3 and 0 comes behind it. */
+static void test_table_moves(void)
+{
+    struct shape g = {4, 3, 5};
+    uint32_t *full = three_full(g), *im;
+    uint16_t *table = random_table(g.l);
+
+    *entry_of(g, full, 0, 1) = LIVE + 4;
+    im = copy_of(g, full);
+    CHECK(do_build(g, im, table) == 0 && TABLE_IS(NONE, 2, 4, 5, 1));
+    CHECK(do_fill_with(g, im, 0, 9, table) == 0);
+    CHECK(counts_are(267, 1) && TABLE_IS(7, 2, 4, 5, 6));
+    CHECK(do_release_with(g, im, 2, table) == 0);
+    CHECK(counts_are(1, 0) && TABLE_IS(7, 2, NONE, 5, 6));
+
+    /* The words that do not belong to the two stay wrong. */
+    memcpy(im, full, len_of(g) * sizeof *im);
+    memcpy(table, (const uint16_t[5]){6, 5, NONE, 0, 4}, sizeof (uint16_t[5]));
+    CHECK(do_fill_with(g, im, 0, 9, table) == 0);
+    CHECK(counts_are(267, 1) && TABLE_IS(7, 5, NONE, 0, 6));
+    CHECK(do_release_with(g, im, 3, table) == 0);
+    CHECK(counts_are(1, 0) && TABLE_IS(7, 5, NONE, NONE, 6));
+    CHECK(do_build(g, im, table) == 0 && TABLE_IS(7, 2, 4, NONE, 6));
+    free(full);
+    free(im);
+    free(table);
+}
+
+/* ---- Refusals of the calls with a table --------------------------------- */
+
+/* As much of a table as can be lent, whatever length is told. */
+static size_t lendable(size_t table_words)
+{
+    return table_words < 8192 ? table_words : 8192;
+}
+
+/* As expect, for the four calls that take a table.  Its words are random, so
+ * no answer may hang on them. */
+static void expect_with(struct lent a, size_t table_words, struct shape real,
+                        const uint32_t want[CALLS], int line)
+{
+    struct pair first = want[BUILD] == 4 ? first_fault(a.g, a.im) : no_fault;
+    size_t lent = lendable(table_words);
+    bool good = true;
+
+    for (enum call c = BUILD; c < CALLS; c++) {
+        struct lent b = a;
+        uint16_t *table = random_table(lent);
+        uint16_t *was = copy_of_table(lent, table);
+        uint32_t buffer[SECTOR];
+
+        b.im = copy_of(real, a.im);
+        memset(buffer, 0xA5, sizeof buffer);
+        good &= answers(call_with(c, b, buffer, table, table_words), want[c],
+                        first);
+        if (want[c] != 0)
+            good &= counts_are(0, 0) && same(real, b.im, a.im) &&
+                    all_are(buffer, 128, POISON) &&
+                    same_table(lent, table, was);
+        free(b.im);
+        free(table);
+        free(was);
+    }
+    check_at(good, "refusals with a table", line);
+}
+
+#define EXPECT_WITH(a, length, real, b, r, w, d) \
+    expect_with(a, length, real, (const uint32_t[]){b, r, w, d}, __LINE__)
+
+/* Lengths that are not L words, among them those of other things. */
+static void expect_2_of_lengths(struct lent a)
+{
+    size_t l = a.g.l;
+    const size_t others[] = {
+        0, l - 1, l + 1, 2 * l, l / 2, (l + 1) / 2, 127, 128, 129,
+        l + 0x100, l + 0x10000, l + 0x8000, l + ((size_t)UINT32_MAX + 1),
+        0xFFFF, a.im_words, (size_t)a.g.b * d_of(a.g), SIZE_MAX,
+        SIZE_MAX / 2 + 1 + l,
+    };
+
+    for (size_t i = 0; i < sizeof others / sizeof others[0]; i++)
+        if (others[i] != l)
+            EXPECT_WITH(a, others[i], a.g, 2, 2, 2, 2);
+}
+
+/* The table's length is asked after 1 and before all that is not 1 or 2. */
+static void test_table_length_in_order(struct shape g)
+{
+    struct lent a = {g, fresh(g), len_of(g), 0, 128};
+    struct lent b = a;
+
+    expect_2_of_lengths(b); /* else 5 */
+    CHECK(do_fill(g, a.im, 0, 7) == 0);
+    expect_2_of_lengths(b); /* else accepted */
+    b.buffer_words = g.l;
+    expect_2_of_lengths(b); /* the two lengths exchanged are among these */
+    b.number = g.l;
+    expect_2_of_lengths(b);
+    b.buffer_words = 128;
+    expect_2_of_lengths(b); /* else 3 */
+    head_of(g, a.im, 1)[0] = 1000001;
+    expect_2_of_lengths(b);
+    b.number = 0;
+    expect_2_of_lengths(b); /* else 4 */
+
+    b.im_words++;
+    EXPECT_WITH(b, g.l - 1, g, 1, 1, 1, 1);
+    EXPECT_WITH(b, g.l, g, 1, 1, 1, 1);
+    EXPECT_WITH(b, g.l + 1, g, 1, 1, 1, 1);
+    b = a;
+    b.g.l = (g.b - 1) * d_of(g);
+    EXPECT_WITH(b, g.l, g, 1, 1, 1, 1);
+    EXPECT_WITH(b, b.g.l, g, 1, 1, 1, 1);
+    b.g.l = 0;
+    EXPECT_WITH(b, 0, g, 1, 1, 1, 1);
+    EXPECT_WITH(b, g.l, g, 1, 1, 1, 1);
+    free(a.im);
+}
+
+static void test_table_refusal_1(void)
+{
+    static const uint32_t off[] = {0, 1, 65, 0x10008, 0x80000008, 0xFFFFFFFF};
+    static const uint32_t wide[] = {0, 105, 106, 0x1005A, 0x8000005A,
+                                    0xFFFFFFFF};
+    struct shape g = {8, 16, 90};
+    struct lent a = {g, fresh(g), len_of(g), 5, 128};
+    struct lent b;
+
+    for (size_t i = 0; i < 6; i++) {
+        b = a;
+        b.g.b = off[i];
+        EXPECT_WITH(b, 90, g, 1, 1, 1, 1);
+        b = a;
+        b.g.s = off[i];
+        EXPECT_WITH(b, 90, g, 1, 1, 1, 1);
+        b = a;
+        b.g.l = wide[i];
+        EXPECT_WITH(b, b.g.l, g, 1, 1, 1, 1);
+        b = a;
+        b.im_words = off[i];
+        EXPECT_WITH(b, 90, g, 1, 1, 1, 1);
+    }
+    b = (struct lent){g, NULL, 0, 0, 0};
+    for (enum call c = BUILD; c < CALLS; c++)
+        CHECK(answers(call_with(c, b, NULL, NULL, 0), 1, no_fault));
+    b = (struct lent){g, a.im, len_of(g), 0, 0};
+    for (enum call c = BUILD; c < CALLS; c++)
+        CHECK(answers(call_with(c, b, NULL, NULL, 0), 2, no_fault));
+    free(a.im);
+}
+
+/* With a table of the right length the others come as without one. */
+static void test_table_refusals_in_order(void)
+{
+    static const size_t sizes[] = {0, 1, 90, 127, 129, SIZE_MAX};
+    struct shape g = {8, 16, 90};
+    struct lent a = {g, fresh(g), len_of(g), 5, 128};
+    struct lent b = a;
+
+    EXPECT_WITH(b, 90, g, 0, 5, 0, 5);
+    CHECK(do_fill(g, a.im, 5, 7) == 0);
+    EXPECT_WITH(b, 90, g, 0, 0, 0, 0);
+    b.number = 89;
+    EXPECT_WITH(b, 90, g, 0, 5, 0, 5);
+    b.number = 90;
+    EXPECT_WITH(b, 90, g, 0, 3, 3, 3);
+    b.number = 0xFFFFFFFF;
+    EXPECT_WITH(b, 90, g, 0, 3, 3, 3);
+    for (size_t i = 0; i < sizeof sizes / sizeof sizes[0]; i++) {
+        b = a;
+        b.buffer_words = sizes[i];
+        EXPECT_WITH(b, 90, g, 0, 2, 2, 0);
+        b.number = 90;
+        EXPECT_WITH(b, 90, g, 0, 2, 2, 3);
+    }
+    free(a.im);
+}
+
+/* As expect_around_4, for a fault by itself in each block and of each rule. */
+static void test_table_around_4(struct shape g)
+{
+    uint32_t *sound = roomy(g);
+
+    for (size_t i = 0; i <= BREAKS; i++) {
+        struct lent a = {g, copy_of(g, sound), len_of(g), 0, 128};
+        struct pair what = i < BREAKS ? break_at(g, i) : (struct pair){g.b, 6};
+        struct lent b = a;
+
+        break_rule(g, a.im, what, i % 2 == 0);
+        EXPECT_WITH(b, g.l, g, 4, 4, 4, 4);
+        CHECK(bad_is(what)); /* release was the last */
+        b.number = g.l - 1;
+        EXPECT_WITH(b, g.l, g, 4, 4, 4, 4);
+        b.number = g.l;
+        EXPECT_WITH(b, g.l, g, 4, 3, 3, 3);
+        EXPECT_WITH(b, g.l + 1, g, 2, 2, 2, 2);
+        b.buffer_words = 127;
+        EXPECT_WITH(b, g.l, g, 4, 2, 2, 3);
+        free(a.im);
+    }
+    free(sound);
+}
+
+static void test_table_refusal_6(void)
+{
+    struct shape g = {2, 3, 1};
+    struct lent a = {g, fresh(g), len_of(g), 0, 128};
+    struct lent b = a;
+
+    CHECK(do_fill(g, a.im, 0, 1) == 0 && do_fill(g, a.im, 0, 2) == 0);
+    EXPECT_WITH(a, 1, g, 0, 0, 0, 0);
+    a.im[0] = 1000000;
+    EXPECT_WITH(a, 1, g, 0, 0, 6, 0);
+    expect_2_of_lengths(a);
+    b.number = 1;
+    EXPECT_WITH(b, 1, g, 0, 3, 3, 3);
+    CHECK(do_release(g, a.im, 0) == 0);
+    EXPECT_WITH(a, 1, g, 0, 5, 6, 5);
+    free(a.im);
+}
+
+static void test_table_refusals(void)
+{
+    test_table_length_in_order((struct shape){2, 3, 1});
+    test_table_length_in_order((struct shape){8, 16, 90});
+    test_table_length_in_order((struct shape){5, 34, 128});
+    test_table_refusal_1();
+    test_table_refusals_in_order();
+    test_table_around_4((struct shape){5, 9, 20});
+    test_table_around_4((struct shape){4, 41, 100});
+    test_table_refusal_6();
+}
+
+/* ---- Tables that are wrong ---------------------------------------------- */
+
+/* One call with the table, on the image, and its namesake on a copy. */
+static void call_both(enum call c, struct lent a, uint16_t *table)
+{
+    struct shape g = a.g;
+    struct lent b = a;
+    uint32_t *before = copy_of(g, a.im);
+    uint16_t *want = copy_of_table(g.l, table);
+    uint32_t mine[SECTOR], other[SECTOR];
+    uint32_t answer, w, e;
+    struct pair named;
+
+    for (uint32_t i = 0; i < 128; i++)
+        mine[i] = other[i] = rnd();
+    b.im = copy_of(g, a.im);
+    answer = call_without(c, b, other);
+    w = words;
+    e = erasures;
+    named = bad;
+    CHECK(call_with(c, a, mine, table, g.l) == answer);
+    CHECK(counts_are(w, e) && bad_is(named));
+    CHECK(same(g, a.im, b.im) && memcmp(mine, other, sizeof mine) == 0);
+    if (c == BUILD && answer == 0) {
+        CHECK(is_right(g, a.im, table));
+    } else {
+        carry(g, before, b.im, want);
+        CHECK(same_table(g.l, table, want));
+    }
+    free(before);
+    free(b.im);
+    free(want);
+}
+
+/* A slot of this kind other than the number's own, from a random one on. */
+static uint16_t some_slot(struct shape g, uint32_t *im, enum kind want,
+                          uint32_t n)
+{
+    uint32_t d = d_of(g), first = below(g.b * d);
+
+    for (uint32_t i = 0; i < g.b * d; i++) {
+        uint32_t p = (first + i) % (g.b * d);
+        uint32_t e = *entry_of(g, im, p / d, p % d);
+
+        if (kind_of(g, e) == want && e != LIVE + n)
+            return (uint16_t)p;
+    }
+    return NONE;
+}
+
+/* A word for a number, wrong in one of several ways. */
+#define WRONG_WAYS 8u
+
+static uint16_t wrong_word(struct shape g, uint32_t *im, uint32_t n,
+                           uint32_t way)
+{
+    uint32_t end = g.b * d_of(g);
+
+    switch (way) {
+    case 0: return NONE;
+    case 1: return (uint16_t)rnd();
+    case 2: return (uint16_t)end;
+    case 3: return (uint16_t)(end + below(0xFFFF - end));
+    case 4: return some_slot(g, im, DEAD, n);
+    case 5: return some_slot(g, im, LIVING, n);
+    case 6: return some_slot(g, im, FREE, n);
+    default: return (uint16_t)below(end);
+    }
+}
+
+/* Ways from WRONG_WAYS on: the older table, a mixture of all the wrong ways,
+ * one in four words wrong. */
+#define TABLE_WAYS (WRONG_WAYS + 3)
+
+static uint16_t *draw_table(struct shape g, uint32_t *im, uint32_t way,
+                            const uint16_t *older)
+{
+    uint16_t *table;
+
+    if (way == WRONG_WAYS)
+        return copy_of_table(g.l, older);
+    table = right_table(g, im);
+    for (uint32_t n = 0; n < g.l; n++) {
+        if (way < WRONG_WAYS)
+            table[n] = wrong_word(g, im, n, way);
+        else if (way == WRONG_WAYS + 1 || below(4) == 0)
+            table[n] = wrong_word(g, im, n, below(WRONG_WAYS));
+    }
+    return table;
+}
+
+static enum call some_call(void)
+{
+    uint32_t what = below(8);
+
+    return what == 0 ? BUILD : what == 1 ? READ : what < 4 ? RELEASE : WRITE;
+}
+
+/* Calls one after the other, so that a table in part mended is met too. */
+static void some_calls(struct shape g, const uint32_t *im, uint16_t *table,
+                       uint32_t calls)
+{
+    uint32_t *own = copy_of(g, im);
+
+    for (uint32_t i = 0; i < calls; i++) {
+        struct lent a = {g, own, len_of(g), below(g.l), 128};
+
+        call_both(READ, a, table);
+        call_both(some_call(), a, table);
+    }
+    free(own);
+}
+
+static void test_wrong_tables(void)
+{
+    static const struct shape shapes[] = {
+        {2, 3, 1}, {3, 2, 1}, {3, 5, 7}, {4, 4, 8}, {4, 5, 6}, {3, 34, 60},
+        {6, 3, 9}, {64, 2, 62},
+    };
+
+    for (uint32_t round = 0; round < 400; round++) {
+        struct shape g = shapes[round % 8];
+        uint32_t *im = lend(g);
+        uint16_t *older;
+
+        draw_image(g, im);
+        older = right_table(g, im);
+        for (uint32_t i = 0; i < 6; i++) {
+            uint32_t answer = do_fill(g, im, below(g.l), i);
+
+            CHECK(answer == 0 || answer == 6);
+        }
+        for (uint32_t way = 0; way < TABLE_WAYS; way++) {
+            uint16_t *table = draw_table(g, im, way, older);
+
+            some_calls(g, im, table, 3);
+            free(table);
+        }
+        free(im);
+        free(older);
+    }
+}
+
+/* The same over images with a fault, and what they refuse with. */
+static void test_tables_of_damaged_images(void)
+{
+    static const struct shape shapes[] = {
+        {2, 3, 1}, {3, 5, 7}, {4, 4, 8}, {3, 34, 60}, {6, 3, 9},
+    };
+
+    for (uint32_t round = 0; round < 500; round++) {
+        struct shape g = shapes[round % 5];
+        uint32_t *im = lend(g);
+        struct lent a = {g, im, len_of(g), below(g.l), 128};
+        uint16_t *older, *table;
+
+        draw_image(g, im);
+        older = right_table(g, im);
+        damage(g, im);
+        table = draw_table(g, im, round % TABLE_WAYS, older);
+        for (enum call c = BUILD; c < CALLS; c++)
+            call_both(c, a, table);
+        free(im);
+        free(older);
+        free(table);
+    }
+}
+
+/* Each slot and a little more, for each number, where writing must reclaim;
+ * the words of the others are right or all wrong. */
+static void test_each_word_of_each_number(void)
+{
+    struct shape g = {4, 3, 5};
+    uint32_t *full = three_full(g);
+
+    *entry_of(g, full, 0, 1) = LIVE + 4;
+    for (uint32_t i = 0; i < 2 * CALLS * g.l * 12; i++) {
+        struct lent a = {g, copy_of(g, full), len_of(g), i / 12 % g.l, 128};
+        uint16_t *table = right_table(g, full);
+
+        if (i % 2 == 1)
+            for (uint32_t n = 0; n < g.l; n++)
+                table[n] = NONE;
+        table[a.number] = (uint16_t)(i % 12);
+        call_both((enum call)(i / 12 / g.l % CALLS), a, table);
+        free(a.im);
+        free(table);
+    }
+    free(full);
+}
+
+/* Of the one number of the smallest image, each word there is. */
+static void test_each_word_there_is(void)
+{
+    struct shape g = {2, 3, 1};
+    uint32_t *im = fresh(g);
+    uint16_t *table = lend_table(1);
+    uint32_t got[SECTOR];
+    uint32_t good = 0;
+
+    CHECK(do_fill(g, im, 0, 1) == 0 && do_fill(g, im, 0, 2) == 0);
+    for (uint32_t word = 0; word <= 0xFFFF; word++) {
+        got[0] = got[127] = POISON;
+        table[0] = (uint16_t)word;
+        good += do_read_with(g, im, 0, got, table) == 0 && got[0] == 2 &&
+                got[127] == 2 && table[0] == word;
+    }
+    CHECK(good == 0x10000);
+    CHECK(do_release(g, im, 0) == 0);
+    got[0] = POISON;
+    for (uint32_t word = 0; word <= 0xFFFF; word++) {
+        table[0] = (uint16_t)word;
+        good -= do_read_with(g, im, 0, got, table) == 5 && got[0] == POISON &&
+                table[0] == word;
+    }
+    CHECK(good == 0);
+    free(im);
+    free(table);
+}
+
+/* Number 5 in entries of all states in block 0, live only in block 2. */
+static void test_dead_of_the_same_number(void)
+{
+    struct shape g = {3, 11, 10};
+    uint32_t *im = fresh(g), *own;
+    uint16_t *table = random_table(g.l);
+    uint32_t got[SECTOR];
+
+    for (uint32_t state = 0; state < 8; state++)
+        seat(g, im, 0, state, (state << 29) + (state == 6 ? 4 : 5));
+    seat(g, im, 2, 3, LIVE + 5);
+    for (uint32_t i = 0; i < 128; i++)
+        data_of(g, im, 2, 3)[i] = 77;
+    for (uint16_t p = 0; p < 10; p++) {
+        table[5] = p;
+        CHECK(do_read_with(g, im, 5, got, table) == 0);
+        CHECK(all_are(got, 128, 77) && table[5] == p);
+        own = copy_of(g, im);
+        CHECK(do_fill_with(g, own, 5, 9, table) == 0 && counts_are(133, 0));
+        CHECK(*entry_of(g, own, 2, 3) == 5 && table[5] == 8);
+        CHECK(*entry_of(g, own, 0, 8) == LIVE + 5);
+        free(own);
+        own = copy_of(g, im);
+        table[5] = p;
+        CHECK(do_release_with(g, own, 5, table) == 0 && counts_are(1, 0));
+        CHECK(*entry_of(g, own, 2, 3) == 0x40000005 && table[5] == NONE);
+        *entry_of(g, own, 2, 3) = LIVE + 5;
+        CHECK(same(g, own, im));
+        free(own);
+    }
+    free(im);
+    free(table);
+}
+
+/* The image is the front of a longer one.  The words tell of slots in the
+ * block behind it, where just these numbers seem live. */
+static void test_slots_behind_the_image(void)
+{
+    struct shape g = {3, 5, 7}, longer = {4, 5, 7};
+    uint32_t *im = fresh(longer), *was;
+    uint16_t *table = random_table(g.l);
+    uint32_t got[SECTOR] = {0};
+
+    for (uint32_t n = 0; n < 4; n++) {
+        seat(longer, im, 3, n, LIVE + n);
+        table[n] = (uint16_t)(12 + n);
+    }
+    was = copy_of(longer, im);
+    for (uint32_t n = 0; n < 4; n++) {
+        CHECK(do_read_with(g, im, n, got, table) == 5 && got[0] == 0);
+        CHECK(do_release_with(g, im, n, table) == 5 && counts_are(0, 0));
+        CHECK(same(longer, im, was) && table[n] == 12 + n);
+    }
+    for (uint32_t n = 0; n < 4; n++) {
+        CHECK(do_fill_with(g, im, n, n, table) == 0);
+        CHECK(counts_are(n < 3 ? 131 : 133, 0) && table[n] == n);
+    }
+    CHECK(memcmp(head_of(longer, im, 3), head_of(longer, was, 3),
+                 5 * 512) == 0);
+    free(im);
+    free(was);
+    free(table);
+}
+
+/* ---- A right table over many calls -------------------------------------- */
+
+static uint32_t *model_data(struct shape g, uint32_t *im, uint32_t n)
+{
+    for (uint32_t b = 0; b < g.b; b++)
+        for (uint32_t s = 0; s < d_of(g); s++)
+            if (*entry_of(g, im, b, s) == LIVE + n)
+                return data_of(g, im, b, s);
+    return NULL;
+}
+
+static bool reads_like(struct shape g, uint32_t *im, uint32_t *model,
+                       uint32_t n, uint16_t *table)
+{
+    uint32_t *want = model_data(g, model, n);
+    uint32_t got[SECTOR];
+    uint32_t answer;
+
+    memset(got, 0xA5, sizeof got);
+    answer = do_read_with(g, im, n, got, table);
+    if (!want)
+        return answer == 5 && all_are(got, 128, POISON);
+    return answer == 0 && memcmp(got, want, sizeof got) == 0;
+}
+
+/* All calls are with the table; it was built before the first of them only. */
+static void run_with_table(struct shape g, uint32_t *im, uint32_t calls,
+                           uint32_t least_erased)
+{
+    uint32_t *model = copy_of(g, im);
+    uint16_t *table = random_table(g.l);
+    uint32_t erased = 0;
+
+    CHECK(do_build(g, im, table) == 0);
+    for (uint32_t i = 0; i < calls; i++) {
+        struct lent a = {g, im, len_of(g), below(g.l), 128};
+        uint32_t buffer[SECTOR];
+        uint32_t answer, w, e, what = below(16);
+
+        if (i % 256 < 64)
+            a.number /= 8;
+        if (what < 13) {
+            sector_for(a.number, i, buffer);
+            answer = call_with(WRITE, a, buffer, table, g.l);
+            CHECK(answer == model_write(g, model, a.number, buffer, &w, &e));
+            CHECK(answer == 0 && counts_are(w, e) && bad_is(no_fault));
+            erased += e;
+        } else if (what < 15) {
+            answer = call_with(RELEASE, a, NULL, table, g.l);
+            CHECK(answer == model_release(g, model, a.number, &w, &e));
+            CHECK(counts_are(w, e) && bad_is(no_fault));
+        } else {
+            CHECK(reads_like(g, im, model, a.number, table));
+        }
+        CHECK(same(g, im, model) && is_right(g, model, table));
+    }
+    for (uint32_t n = 0; n < g.l; n += 1 + g.l / 100)
+        CHECK(reads_like(g, im, model, n, table));
+    CHECK(do_build(g, im, table) == 0 && is_right(g, model, table));
+    CHECK(erased >= least_erased);
+    free(im);
+    free(model);
+    free(table);
+}
+
+/* All numbers are live and the blocks full but for the last.  The dead slots
+ * are spread evenly, the numbers anyhow. */
+static uint32_t *packed(struct shape g)
+{
+    uint32_t *im = fresh(g);
+    uint32_t d = d_of(g), end = (g.b - 1) * d, dead = end - g.l;
+
+    for (uint32_t p = 0, next = 0; p < end; p++) {
+        uint32_t *h = head_of(g, im, p / d);
+
+        if (p * dead / end != (p + 1) * dead / end)
+            seat(g, im, p / d, p % d, 0);
+        else
+            seat(g, im, p / d, p % d, LIVE + next++ * 7919 % g.l);
+        sector_for(p, 3, data_of(g, im, p / d, p % d));
+        h[1] = 0;
+        h[2] = g.l - 1;
+    }
+    return im;
+}
+
+static void test_runs_with_table(void)
+{
+    static const struct shape shapes[] = {
+        {2, 3, 1}, {3, 2, 1}, {3, 5, 7}, {2, 64, 62}, {64, 2, 62},
+        {8, 16, 90}, {8, 16, 104}, {4, 33, 95}, {4, 34, 98},
+    };
+    struct shape largest = {64, 64, 3968};
+
+    for (size_t i = 0; i < sizeof shapes / sizeof shapes[0]; i++) {
+        run_with_table(shapes[i], fresh(shapes[i]), 800, 5);
+        run_with_table(shapes[i], packed(shapes[i]), 300, 5);
+    }
+    run_with_table(largest, packed(largest), 60, 20);
+}
+
+static void test_tables(void)
+{
+    test_build_fresh((struct shape){2, 3, 1});
+    test_build_fresh((struct shape){8, 16, 90});
+    test_build_fresh((struct shape){64, 64, 3968});
+    test_build_by_hand();
+    test_build_largest();
+    test_table_p6_p7_p8();
+    test_table_p9();
+    test_table_106_writes();
+    test_table_moves();
+    test_table_refusals();
+    test_wrong_tables();
+    test_tables_of_damaged_images();
+    test_each_word_of_each_number();
+    test_each_word_there_is();
+    test_dead_of_the_same_number();
+    test_slots_behind_the_image();
+    test_runs_with_table();
+}
+
 int main(void)
 {
     test_p1();
@@ -1845,6 +2773,7 @@ int main(void)
     test_many_shapes();
     test_drawn_images();
     test_damaged_images();
+    test_tables();
     printf("%lu passed, %lu failed\n", passed, failed);
     return failed == 0 ? 0 : 1;
 }
