@@ -288,7 +288,7 @@ fn name_faults(image: &mut [u32]) {
 }
 
 // Writes sector n, every word of it `fill`.
-fn write(image: &mut [u32], n: u32, fill: u32) -> shellwaltz::Outcome {
+fn write(image: &mut [u32], n: u32, fill: u32) -> calls::Outcome {
     let buffer = [fill; 128];
     shellwaltz::write(image, geo(), n, &buffer)
 }
@@ -305,7 +305,7 @@ fn record(letter: &[u8], n: u32, answer: u32, words: u32, erasures: u32, first: 
 }
 
 // That of a call which changes the image.
-fn outcome_line(letter: &[u8], n: u32, r: shellwaltz::Outcome) {
+fn outcome_line(letter: &[u8], n: u32, r: calls::Outcome) {
     let answer = r.answer;
     record(letter, n, answers::number(answer), r.words, r.erasures, 0);
 }

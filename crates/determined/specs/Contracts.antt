@@ -1,4 +1,4 @@
--- The contract of every public function determines what a call does: the answer, each count, the whole image and the buffer. A contract is
+-- The contract of every public function determines what a call does: the answer, each count, the whole image, the buffer and the table. A contract is
 -- here what the toolchain makes of the clauses in the source, so one that is dropped or weakened there makes its line of `EveryContract` false.
 --
 -- To add a public function: give it no `requires`, and as `ensures` equations whose right sides name the arguments alone, one for the result
@@ -6,6 +6,7 @@
 use Rattle.determined.specs.Determined.{Function, Determined}
 use Rattle.answers.proofs as answers
 use Rattle.shellwaltz.proofs as calls
+use Rattle.tabled.proofs as tabled
 use Rattle.shellwaltz_c.proofs as in-c
 use Rattle.records.proofs as records
 
@@ -38,6 +39,19 @@ write = record { ended = calls.write.ended; clauses = λ M. calls.write.clauses;
 abbrev pub release : Function
 release = record { ended = calls.release.ended; clauses = λ M. calls.release.clauses; routine = calls.release.Symbol.routine }
 
+-- ---- with a lookup table (K2)
+abbrev pub build-table : Function
+build-table = record { ended = tabled.build.ended; clauses = λ M. tabled.build.clauses; routine = tabled.build.Symbol.routine }
+
+abbrev pub read-with-table : Function
+read-with-table = record { ended = tabled.read.ended; clauses = λ M. tabled.read.clauses; routine = tabled.read.Symbol.routine }
+
+abbrev pub write-with-table : Function
+write-with-table = record { ended = tabled.write.ended; clauses = λ M. tabled.write.clauses; routine = tabled.write.Symbol.routine }
+
+abbrev pub release-with-table : Function
+release-with-table = record { ended = tabled.release.ended; clauses = λ M. tabled.release.clauses; routine = tabled.release.Symbol.routine }
+
 -- ---- the calls for C
 abbrev pub c-format : Function
 c-format =
@@ -63,6 +77,18 @@ abbrev pub c-release : Function
 c-release =
     record { ended = in-c.shellwaltz_release.ended; clauses = λ M. in-c.shellwaltz_release.clauses; routine = in-c.shellwaltz_release.Symbol.routine }
 
+abbrev pub c-build-table : Function
+c-build-table = record { ended = in-c.with_table.shellwaltz_build_table.ended; clauses = λ M. in-c.with_table.shellwaltz_build_table.clauses; routine = in-c.with_table.shellwaltz_build_table.Symbol.routine }
+
+abbrev pub c-read-with-table : Function
+c-read-with-table = record { ended = in-c.with_table.shellwaltz_read_with_table.ended; clauses = λ M. in-c.with_table.shellwaltz_read_with_table.clauses; routine = in-c.with_table.shellwaltz_read_with_table.Symbol.routine }
+
+abbrev pub c-write-with-table : Function
+c-write-with-table = record { ended = in-c.with_table.shellwaltz_write_with_table.ended; clauses = λ M. in-c.with_table.shellwaltz_write_with_table.clauses; routine = in-c.with_table.shellwaltz_write_with_table.Symbol.routine }
+
+abbrev pub c-release-with-table : Function
+c-release-with-table = record { ended = in-c.with_table.shellwaltz_release_with_table.ended; clauses = λ M. in-c.with_table.shellwaltz_release_with_table.clauses; routine = in-c.with_table.shellwaltz_release_with_table.Symbol.routine }
+
 -- ---- the records of a script
 abbrev pub script-geometry : Function
 script-geometry =
@@ -87,12 +113,20 @@ pub record EveryContract : Type 2 where
   pub of-read : Determined read
   pub of-write : Determined write
   pub of-release : Determined release
+  pub of-build-table : Determined build-table
+  pub of-read-with-table : Determined read-with-table
+  pub of-write-with-table : Determined write-with-table
+  pub of-release-with-table : Determined release-with-table
   pub of-c-format : Determined c-format
   pub of-c-check : Determined c-check
   pub of-c-report : Determined c-report
   pub of-c-read : Determined c-read
   pub of-c-write : Determined c-write
   pub of-c-release : Determined c-release
+  pub of-c-build-table : Determined c-build-table
+  pub of-c-read-with-table : Determined c-read-with-table
+  pub of-c-write-with-table : Determined c-write-with-table
+  pub of-c-release-with-table : Determined c-release-with-table
   pub of-script-geometry : Determined script-geometry
   pub of-record-of : Determined record-of
   pub of-other : Determined other

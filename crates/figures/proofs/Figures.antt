@@ -9,11 +9,19 @@ use Rattle.image.specs.WellFormed.{R1, R2, R3, R4, R5, R6, R7, brokenRule, soun
 use Rattle.flash.specs.Steps.{erasedBlock, applied, run, wordsIn, erasuresIn}
 use Rattle.flash.specs.Placing.{leastLive, greatestLive, closesBlock, fillsSlot, placing, releasing}
 use Rattle.flash.specs.Writing.{filling, mustReclaim, copying, reclaiming, reclaimingFirst, writing}
-use Rattle.shellwaltz.specs.Refusals.{formatAnswer, checkAnswer, readAnswer, writeAnswer, releaseAnswer}
-use Rattle.shellwaltz.specs.Calls.{countsZeroed, fresh, formatted, readBuffer, writeSteps, releaseSteps}
+use Rattle.tables.specs.Tables.{rightTable}
+use Rattle.flash.specs.Tables.{tableCopied, tableReclaimed, tableFilled, tableReclaimedFirst, tableWritten, tableReleased}
+use Rattle.calls.specs.Refusals.{formatAnswer, checkAnswer, readAnswer, writeAnswer, releaseAnswer}
+use Rattle.calls.specs.Calls.{countsZeroed, fresh, formatted, readBuffer, writeSteps, releaseSteps}
+use Rattle.tabled.specs.Refusals.{writeAnswerWith, releaseAnswerWith}
+use Rattle.tabled.specs.Calls.{writeStepsWith, writeTable, releaseTable}
 use Rattle.promises.specs.Runs.{called, ran}
-use Rattle.figures.specs.Figures.{P1-to-P9}
+use Rattle.figures.specs.Figures.{P1-to-P9, T1-to-T4}
 
 pub p1-to-p9 : P1-to-P9
 unfolding allBelow anyBelow sumBelow listBelow bestBelow bit cleared shared roundedUp g withinLimits eraseCount leastMapped greatestMapped freeMap entry contents isComplete slotOf slot find blank full lowestFree lowestOpen leastWornBlank victim R1 R2 R3 R4 R5 R6 R7 brokenRule soundBlock sound wellFormed erasedBlock applied run wordsIn erasuresIn leastLive greatestLive closesBlock fillsSlot placing releasing filling mustReclaim copying reclaiming reclaimingFirst writing formatAnswer checkAnswer readAnswer writeAnswer releaseAnswer countsZeroed fresh formatted readBuffer writeSteps releaseSteps called ran
 p1-to-p9 = tt
+
+pub t1-to-t4 : T1-to-T4
+unfolding allBelow anyBelow sumBelow listBelow bestBelow bit cleared shared roundedUp g withinLimits eraseCount leastMapped greatestMapped freeMap entry contents isComplete slotOf slot find blank full lowestFree lowestOpen leastWornBlank victim R1 R2 R3 R4 R5 R6 R7 brokenRule soundBlock sound wellFormed erasedBlock applied run wordsIn erasuresIn leastLive greatestLive closesBlock fillsSlot placing releasing filling mustReclaim copying reclaiming reclaimingFirst writing formatAnswer checkAnswer readAnswer writeAnswer releaseAnswer countsZeroed fresh formatted readBuffer writeSteps releaseSteps rightTable tableCopied tableReclaimed tableFilled tableReclaimedFirst tableWritten tableReleased writeAnswerWith releaseAnswerWith writeStepsWith writeTable releaseTable
+t1-to-t4 = tt

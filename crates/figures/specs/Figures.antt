@@ -1,9 +1,10 @@
--- FORMAT.md, Figures: P1 to P9 as one table, each row what the definitions give beside what the page prints, and one statement of them all.
+-- FORMAT.md, Figures: P1 to P9 as one table, each row what the definitions give beside what the page prints, and one statement of them all;
+-- and likewise T1 to T4, of the lookup table (K2).
 use mathlib.Core.Bool.{Bool, true, _&&_}
 use mathlib.Core.List.{List, [], _∷_}
 use Prim.Native.Nat.{ℕ, _+_, _-_, _*_}
 use lib.Dec.{T, eqb}
-use lib.ListN.{replicate}
+use lib.ListN.{length, getD, replicate}
 use Rattle.bits.specs.Word.{ones}
 use Rattle.geometry.specs.Geometry.{shape, filled, d, k, g, imageLength}
 use Rattle.geometry.specs.Places.{entryWord}
@@ -11,9 +12,11 @@ use Rattle.image.specs.declared.Slot.{Slot}
 use Rattle.image.specs.declared.Slot.the-variants.{Free, Live, Dead, Faulty}
 use Rattle.image.specs.Words.{entry, freeMap}
 use Rattle.image.specs.Slots.{slotOf}
+use Rattle.tables.specs.Tables.{Table, rightTable}
 use Rattle.answers.specs.Answers.{numberOf}
-use Rattle.shellwaltz.specs.Refusals.{formatAnswer}
-use Rattle.shellwaltz.specs.Calls.{fresh, writeOutcome, written, released}
+use Rattle.calls.specs.Refusals.{formatAnswer}
+use Rattle.calls.specs.Calls.{fresh, writeOutcome, written, released}
+use Rattle.tabled.specs.Calls.{writeOutcomeWith, writeTable, releaseTable}
 use Rattle.promises.specs.Runs.{Call, Write, ran, started}
 
 -- a figure: what the definitions give, and what the page prints
@@ -107,3 +110,41 @@ figures =
 -- P1 to P9
 abbrev pub P1-to-P9 : Type 0
 P1-to-P9 = T (allMatch figures)
+
+-- the word of n
+abbrev pub wordOf : Table → ℕ → ℕ
+wordOf table n = getD table n 0
+
+abbrev pub tableFigures : List Figure
+tableFigures =
+    let three = shape 3 5 7 in
+    let first = written three (fresh three) 5 (filled 1) in
+    let right = rightTable three first in
+    let two = shape 2 4 2 in
+    let wrong : Table = 7 ∷ 9 ∷ [] in
+    let filled1 = written two (fresh two) 0 (filled 1) in
+    let filled2 = written two filled1 1 (filled 2) in
+    let filled3 = written two filled2 1 (filled 3) in
+    let left = writeTable two filled3 1 (filled 4) wrong in
+    -- T1: the right table after P6
+    length right is 7
+    ∷ wordOf right 0 is 0xFFFF
+    ∷ wordOf right 1 is 0xFFFF
+    ∷ wordOf right 2 is 0xFFFF
+    ∷ wordOf right 3 is 0xFFFF
+    ∷ wordOf right 4 is 0xFFFF
+    ∷ wordOf right 5 is 0
+    ∷ wordOf right 6 is 0xFFFF
+    -- T2: P7 with that table
+    ∷ wordOf (writeTable three first 5 (filled 2) right) 5 is 1
+    -- T3: P8 with that table
+    ∷ wordOf (releaseTable three first 5 right) 5 is 0xFFFF
+    -- T4: 1 is written with a wrong table where it has to reclaim, and 0 is moved
+    ∷ writeOutcomeWith two filled3 1 (filled 4) wrong .erasures is 1
+    ∷ wordOf left 0 is 3
+    ∷ wordOf left 1 is 5
+    ∷ []
+
+-- T1 to T4
+abbrev pub T1-to-T4 : Type 0
+T1-to-T4 = T (allMatch tableFigures)

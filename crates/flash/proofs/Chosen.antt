@@ -2,7 +2,6 @@
 use mathlib.Core.Path.{_≡_, refl, sym, ap, _∙_}
 use mathlib.Core.Logic.{_≢_}
 use mathlib.Core.Bool.{Bool, true, false, not, true≢false}
-use mathlib.Core.List.{List}
 use Prim.Native.Nat.{ℕ, _<_, _≤_}
 use native.Mathlib.Decide.{ℕ-discrete}
 use native.Mathlib.Omega.{arith}
@@ -16,16 +15,16 @@ use Rattle.geometry.specs.declared.Geometry.{Geometry}
 use Rattle.geometry.specs.Geometry.{Limits, d}
 use Rattle.geometry.proofs.Laws.{d-positive}
 use Rattle.image.specs.declared.Slot.the-variants.{Free}
+use Rattle.image.specs.declared.Found.the-variants.{At}
 use Rattle.image.specs.Words.{Image}
 use Rattle.image.specs.Slots.{slot, isFree}
 use Rattle.image.specs.Blocks.{blank, full, isOpen, lowestFree, lowestOpen, lessWorn, leastWornBlank}
 use Rattle.image.proofs.Facts.{free-is}
-use Rattle.flash.specs.Placing.{placing}
-use Rattle.flash.specs.Writing.{anyOpen, filling, mustReclaim}
+use Rattle.flash.specs.Writing.{anyOpen, nextSlot, mustReclaim}
 
--- slot i of block b is what `filling` takes: it is free, and another block is blank
+-- slot i of block b is what rules 1 and 2 take: it is free, and another block is blank
 pub record Chosen (geo : Geometry) (image : Image) (b i : ℕ) : Type 0 where
-  pub steps : (n : ℕ) (ws : List ℕ) → filling geo image n ws ≡ placing geo image n ws b i
+  pub at : nextSlot geo image ≡ At b i
   pub block : b < geo .blocks
   pub slot-of : i < d geo
   pub free : slot geo image b i ≡ Free
@@ -60,7 +59,7 @@ module _ (geo : Geometry) (image : Image) where
 module _ (geo : Geometry) (image : Image) (within : Limits geo) where
   -- rule 1: a block is open
   rule-1 : anyOpen geo image ≡ true → {c : ℕ} → c < geo .blocks → blank geo image c ≡ true → Choice geo image
-  unfolding filling lowestOpen lowestFree
+  unfolding lowestOpen lowestFree
   rule-1 t {c} l empty =
       let block = best-any (λ i r. false) (geo .blocks) (isOpen geo image) t in
       let is-open = best-passes (λ i r. false) (geo .blocks) (isOpen geo image) block in
@@ -71,7 +70,7 @@ module _ (geo : Geometry) (image : Image) (within : Limits geo) where
         i = lowestFree geo image (lowestOpen geo image);
         chosen =
             record {
-              steps = λ n ws. rw t;
+              at = rw t;
               block = block;
               slot-of = inside;
               free = free-is _ (best-passes (λ i r. false) (d geo) frees inside);
@@ -84,7 +83,7 @@ module _ (geo : Geometry) (image : Image) (within : Limits geo) where
 
   -- rule 2: none is open, and two are blank
   rule-2 : anyOpen geo image ≡ false → Two (geo .blocks) (blank geo image) → Choice geo image
-  unfolding filling leastWornBlank
+  unfolding leastWornBlank
   rule-2 t two =
       let block = best-some (lessWorn geo image) (geo .blocks) (blank geo image) (two .one-below) (two .one-passes) in
       let empty = best-passes (lessWorn geo image) (geo .blocks) (blank geo image) block in
@@ -104,7 +103,7 @@ module _ (geo : Geometry) (image : Image) (within : Limits geo) where
             i = 0;
             chosen =
                 record {
-                  steps = λ n ws. rw t;
+                  at = rw t;
                   block = block;
                   slot-of = d-positive geo within;
                   free = blank-slot geo image (leastWornBlank geo image) empty 0 (d-positive geo within);

@@ -20,13 +20,13 @@ use Rattle.geometry.specs.Places.{place, eraseWord, leastWord, greatestWord, ma
 use Rattle.geometry.proofs.Laws.{place-block, low-in-block, map-in-block, entry-in-block, map-covers, content-word-inside, content-word-after}
 use Rattle.image.specs.declared.Slot.the-variants.{Free, Live}
 use Rattle.image.specs.Words.{Image, Shaped, Words32, word, eraseCount, leastMapped, greatestMapped, freeMap, mapBit, entry, contents}
-use Rattle.image.specs.Slots.{slotOf, slot, isFree, isFaulty, mapOf}
+use Rattle.image.specs.Slots.{slotOf, slot, isFree, isFaulty, find, mapOf}
 use Rattle.image.specs.Blocks.{full}
 use Rattle.image.specs.WellFormed.{ceiling}
 use Rattle.image.proofs.Entries.{free-slot}
 use Rattle.image.proofs.Reading.{block-room, word-inside}
 use Rattle.image.proofs.Facts.{Sound}
-use Rattle.image.proofs.Finding.{map-same}
+use Rattle.image.proofs.Finding.{find-same, map-same}
 use Rattle.image.proofs.Places.{apart, contents-at, contents-are, contents-long}
 use Rattle.flash.specs.Steps.{Step, Program, Erase, erasedBlock, applied, run, leavesAsked}
 use Rattle.flash.proofs.Stores.{Exact, lastAsked, counts-erasures, count-one, last-here, last-other, exact-one, run-words}
@@ -295,13 +295,19 @@ module _ (geo : Geometry) (image : Image) (ready : Ready geo image) (v w : ℕ) 
               (rw (same .0) (were .0), rw (same .1) (were .1));
         }
 
-    pub wiped-map : (n : ℕ) → mapOf geo wiped n ≡ mapOf geo image n
-    wiped-map n =
-        map-same geo image wiped n (ready .sound) wiped-sound
-        (λ c j l h e.
-        let other : c ≢ v = λ p. none-live j n h (ap (λ (x : ℕ). slot geo image x j) (sym p) ∙ e) in
-        (wiped-slot c j other h ∙ e, wiped-contents c j l other h))
+    -- a slot that was live is in another block too
+    in-another : {c j n : ℕ} → j < d geo → slot geo image c j ≡ Live n → c ≢ v
+    in-another {c} {j} {n} l e p = none-live j n l (ap (λ (x : ℕ). slot geo image x j) (sym p) ∙ e)
+
+    -- every number is found where it was, with its contents
+    pub wiped-found : (n : ℕ) → find geo wiped n ≡ find geo image n
+    wiped-found n =
+        find-same geo image wiped n wiped-sound
+        (λ c j l h e. wiped-slot c j (in-another h e) h ∙ e)
         (λ c j l h e. live-was h e .1)
+
+    pub wiped-map : (n : ℕ) → mapOf geo wiped n ≡ mapOf geo image n
+    wiped-map n = map-same geo image wiped n (wiped-found n) (λ c j l h e. wiped-contents c j l (in-another h e) h)
 
     pub wiped-ready : Ready geo wiped
     wiped-ready = record { shaped = wiped-shaped; words = wiped-words; sound = wiped-sound }

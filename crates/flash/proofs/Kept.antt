@@ -1,4 +1,5 @@
--- What a placing keeps: the image stays sound, the map is the old one with n set, one slot fewer is free. Assumes nothing.
+-- What a placing keeps: the image stays sound, the map is the old one with n set, a right table stays right, one slot fewer is free.
+-- Assumes nothing.
 use mathlib.Core.Path.{_≡_, sym, ap, ap₂, _∙_}
 use mathlib.Core.Logic.{_≢_, _⊎_, inl, inr, ⊎-elim, dite}
 use mathlib.Core.Bool.{true, false, not, true≢false}
@@ -24,7 +25,9 @@ use Rattle.image.specs.Words.{Image, Words32, leastMapped, greatestMapped, mapB
 use Rattle.image.specs.Slots.{slot, isFree, isLive, isFaulty, isLiveFor, liveIn, find, mapOf}
 use Rattle.image.specs.Blocks.{full, freeSlots}
 use Rattle.image.proofs.Facts.{Sound, live-is-for, live-word}
-use Rattle.image.proofs.Finding.{found-live, live-found, map-at, map-same}
+use Rattle.image.proofs.Finding.{found-live, live-found, map-at, find-same, map-same}
+use Rattle.tables.specs.Tables.{rightTable, noted}
+use Rattle.tables.proofs.Laws.{right-noted}
 use Rattle.flash.specs.Placing.{leastLive, greatestLive}
 use Rattle.flash.proofs.Filling.{Ready, Target}
 use Rattle.flash.proofs.Placed.{Placed, Bounds}
@@ -243,17 +246,26 @@ module _
             bounded = bounded-kept;
           }
 
-      -- its map is the old one with n set
+      -- n is found in the slot that was taken, and every other number where it was
+      pub placed-found : find geo after n ≡ At b i
+      placed-found = live-found geo after placed-sound n b i (record { block = target .block; slot-of = target .slot-of; live = p .here })
+
+      pub others-found : (m : ℕ) → m ≢ n → find geo after m ≡ find geo image m
+      others-found m x =
+          find-same geo image after m placed-sound
+          (λ c j l h e. live-after m c j l h x e .0)
+          (λ c j l h e. live-before m c j l h x e)
+
+      -- so a right table stays right when n is noted there
+      pub placed-right : noted geo (rightTable geo image) n (At b i) ≡ rightTable geo after
+      placed-right = right-noted geo image after n (At b i) placed-found others-found
+
+      -- the map is the old one with n set
       pub placed-here : mapOf geo after n ≡ some ws
-      placed-here =
-          map-at geo after n b i (live-found geo after placed-sound n b i (record { block = target .block; slot-of = target .slot-of; live = p .here }))
-          ∙ ap some (p .contents-here)
+      placed-here = map-at geo after n b i placed-found ∙ ap some (p .contents-here)
 
       pub placed-other : (m : ℕ) → m ≢ n → mapOf geo after m ≡ mapOf geo image m
-      placed-other m x =
-          map-same geo image after m s placed-sound
-          (λ c j l h e. live-after m c j l h x e)
-          (λ c j l h e. live-before m c j l h x e)
+      placed-other m x = map-same geo image after m (others-found m x) (λ c j l h e. live-after m c j l h x e .1)
 
     -- one slot fewer is free
     pub placed-free : sumBelow (geo .blocks) (freeSlots geo after) + 1 ≡ sumBelow (geo .blocks) (freeSlots geo image)

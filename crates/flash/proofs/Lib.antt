@@ -11,5 +11,6 @@ pub mod Moving
 pub mod Reclaimed
 pub mod Chosen
 pub mod Written
+pub mod Tables
 pub mod Released
 pub mod Planned

@@ -1,4 +1,5 @@
--- The copying of a reclaim, slot by slot: what is kept, what is where, and what it costs. Assumes nothing.
+-- The copying of a reclaim, slot by slot: what is kept, what is where, what it costs, and that a right table stays right. Assumes
+-- nothing.
 use mathlib.Core.Path.{_≡_, refl, sym, ap, ap₂, _∙_}
 use mathlib.Core.Logic.{_≢_, ⊎-elim}
 use mathlib.Core.Bool.{Bool, true, false, not, _&&_}
@@ -21,15 +22,17 @@ use Rattle.image.specs.Blocks.{full}
 use Rattle.image.proofs.Facts.{Sound, live-word}
 use Rattle.image.proofs.Finding.{live-found, map-at}
 use Rattle.image.proofs.Places.{contents-long, contents-words}
+use Rattle.tables.specs.Tables.{Table, rightTable, noted, slotNoted}
 use Rattle.flash.specs.Steps.{Step, run, wordsIn, erasuresIn, leavesAsked}
 use Rattle.flash.specs.Placing.{placing}
 use Rattle.flash.specs.Writing.{Copied, copiedSlot, copying, FoundInPlace}
+use Rattle.flash.specs.Tables.{tableCopied}
 use Rattle.flash.proofs.Stores.{run-append, asked-append, words-append, erasures-append}
 use Rattle.flash.proofs.Counts.{placing-erasures}
 use Rattle.flash.proofs.Unused.{SparesUnused, spares-none, spares-append, placing-spares}
 use Rattle.flash.proofs.Filling.{Ready, Target}
 use Rattle.flash.proofs.Placed.{Placed, Bounds, placing-exact, placing-placed, placing-bounds, placing-cost, placing-shaped, placing-words32}
-use Rattle.flash.proofs.Kept.{not-live, other-place, free-as-before, live-before, only-here, placed-sound, placed-here, placed-other}
+use Rattle.flash.proofs.Kept.{not-live, other-place, free-as-before, live-before, only-here, placed-sound, placed-right, placed-here, placed-other}
 
 module _
     (geo : Geometry) (image : Image) (v t : ℕ)
@@ -44,8 +47,9 @@ module _
     abbrev so-far : Copied → Image
     so-far st = run geo image (st .steps)
 
-    -- how the image stands after the first m slots of v
-    pub record Moved (m : ℕ) (st : Copied) : Type 0 where
+    -- how the image stands after the first m slots of v, and that the table that was right at the start, with each copied number noted,
+    -- is right now
+    pub record Moved (m : ℕ) (st : Copied) (table : Table) : Type 0 where
       pub asked : leavesAsked geo image (st .steps) ≡ true
       pub ready : Ready geo (so-far st)
       pub words : wordsIn (st .steps) ≡ 133 * st .taken
@@ -59,8 +63,9 @@ module _
       pub used : (j : ℕ) → j < st .taken → isFree (slot geo (so-far st) t j) ≡ false
       pub others : (c j : ℕ) → c < geo .blocks → c ≢ v → c ≢ t → j < d geo → slot geo (so-far st) c j ≡ slot geo image c j
       pub map : (n : ℕ) → mapOf geo (so-far st) n ≡ mapOf geo image n
+      pub right : table ≡ rightTable geo (so-far st)
 
-    nothing-yet : Moved 0 (record { steps = []; taken = 0 })
+    nothing-yet : Moved 0 (record { steps = []; taken = 0 }) (rightTable geo image)
     unfolding run leavesAsked wordsIn erasuresIn sumBelow
     nothing-yet =
         record {
@@ -77,10 +82,12 @@ module _
           used = λ j l. absurd (omega arith);
           others = λ c j l n n' h. refl;
           map = λ n. refl;
+          right = refl;
         }
 
     -- a slot that is not live is passed by
-    passed-by : (m : ℕ) (st : Copied) → m < d geo → Moved m st → isLive (slot geo (so-far st) v m) ≡ false → Moved (suc m) st
+    passed-by :
+        (m : ℕ) (st : Copied) {table : Table} → m < d geo → Moved m st table → isLive (slot geo (so-far st) v m) ≡ false → Moved (suc m) st table
     unfolding sumBelow
     passed-by m st l h none =
         record {
@@ -98,10 +105,11 @@ module _
           used = h .used;
           others = h .others;
           map = h .map;
+          right = h .right;
         }
 
     -- a live slot is copied
-    module _ (m : ℕ) (st : Copied) (n : ℕ) (l : m < d geo) (h : Moved m st) (live : slot geo (so-far st) v m ≡ Live n) where
+    module _ (m : ℕ) (st : Copied) {table : Table} (n : ℕ) (l : m < d geo) (h : Moved m st table) (live : slot geo (so-far st) v m ≡ Live n) where
       abbrev now : Image
       now = so-far st
 
@@ -221,7 +229,7 @@ module _
       same-image : so-far next ≡ after
       same-image = run-append geo image (st .steps) more
 
-      copied : Moved (suc m) next
+      copied : Moved (suc m) next (noted geo table n (At t (st .taken)))
       unfolding sumBelow
       copied =
           record {
@@ -244,21 +252,31 @@ module _
             others = λ c j q x y r.
                 rw same-image (p .other c j q r (λ z w. y z) (not-here (λ z w. x z)) ∙ h .others c j q x y r);
             map = λ x. rw same-image (map-after x ∙ h .map x);
+            right = rw (same-image, h .right) (placed-right geo now after n ws t (st .taken) (h .ready) target p bounds words-after);
           }
 
     -- one slot more
-    moved-on : (m : ℕ) (st : Copied) → m < d geo → Moved m st → Moved (suc m) (copiedSlot geo (so-far st) v t m st (slot geo (so-far st) v m))
-    moved-on m st l h = go (slot geo (so-far st) v m) refl
+    moved-on :
+        (m : ℕ) (st : Copied) {table : Table} →
+        m < d geo →
+        Moved m st table →
+        Moved (suc m)
+        (copiedSlot geo (so-far st) v t m st (slot geo (so-far st) v m))
+        (slotNoted geo table (slot geo (so-far st) v m) (At t (st .taken)))
+    moved-on m st {table} l h = go (slot geo (so-far st) v m) refl
       where
-        go : (s : Slot) → slot geo (so-far st) v m ≡ s → Moved (suc m) (copiedSlot geo (so-far st) v t m st s)
+        go :
+            (s : Slot) →
+            slot geo (so-far st) v m ≡ s →
+            Moved (suc m) (copiedSlot geo (so-far st) v t m st s) (slotNoted geo table s (At t (st .taken)))
         go Free e = passed-by m st l h (ap isLive e)
         go (Live n) e = copied m st n l h e
         go Dead e = passed-by m st l h (ap isLive e)
         go Faulty e = passed-by m st l h (ap isLive e)
 
     -- all the slots
-    pub moved : (m : ℕ) → m ≤ d geo → Moved m (copying geo image v t m)
-    unfolding copying
+    pub moved : (m : ℕ) → m ≤ d geo → Moved m (copying geo image v t m) (tableCopied geo image v t (rightTable geo image) m)
+    unfolding copying tableCopied
     moved zero l = nothing-yet
     moved (suc m) l = moved-on m (copying geo image v t m) l (moved m (omega arith))
 

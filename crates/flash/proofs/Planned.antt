@@ -11,13 +11,16 @@ use Rattle.ranges.proofs.Tests.{unless, any-of}
 use Rattle.ranges.proofs.Searches.{best-passes, best-any}
 use Rattle.geometry.specs.declared.Geometry.{Geometry}
 use Rattle.geometry.specs.Geometry.{d}
+use Rattle.image.specs.declared.Found.the-variants.{At}
 use Rattle.image.specs.Words.{Image, eraseCount}
 use Rattle.image.specs.Slots.{slot, isFree}
 use Rattle.image.specs.Blocks.{blank, isOpen, lowestFree, lowestOpen, lessWorn, leastWornBlank, victim}
 use Rattle.image.specs.WellFormed.{ceiling, R6}
+use Rattle.tables.specs.Tables.{Table, noted}
 use Rattle.flash.specs.declared.Plan.the-variants.{Fill, Reclaim, Worn}
 use Rattle.flash.specs.Placing.{placing}
-use Rattle.flash.specs.Writing.{anyOpen, filling, mustReclaim, reclaimingFirst, writing, planned}
+use Rattle.flash.specs.Writing.{anyOpen, nextSlot, filling, mustReclaim, reclaimingFirst, writing, planned}
+use Rattle.flash.specs.Tables.{tableFilled, tableReclaimedFirst, tableWritten}
 use Rattle.flash.proofs.Chosen.{open-free}
 
 module _ (geo : Geometry) (image : Image) where
@@ -64,23 +67,23 @@ module _ (geo : Geometry) (image : Image) where
   unfolding R6 leastWornBlank
   blank-block t = best-any (lessWorn geo image) (geo .blocks) (blank geo image) t
 
-  -- the steps of rules 1 and 2, by what the code found
-  pub filling-open :
-      (b i : ℕ) →
-      b ≡ lowestOpen geo image →
-      i ≡ lowestFree geo image b →
-      b < geo .blocks →
-      (n : ℕ) (ws : List ℕ) →
-      filling geo image n ws ≡ placing geo image n ws b i
-  unfolding filling
-  filling-open b i p q l n ws =
+  -- the slot of the next write, by what the code found
+  pub next-open : (b i : ℕ) → b ≡ lowestOpen geo image → i ≡ lowestFree geo image b → b < geo .blocks → nextSlot geo image ≡ At b i
+  next-open b i p q l =
       let block : lowestOpen geo image < geo .blocks = omega arith in
       rw (some-open block, ← p, ← q)
 
-  pub filling-blank :
-      (b : ℕ) → b ≡ leastWornBlank geo image → geo .blocks ≤ lowestOpen geo image → (n : ℕ) (ws : List ℕ) → filling geo image n ws ≡ placing geo image n ws b 0
+  pub next-blank : (b : ℕ) → b ≡ leastWornBlank geo image → geo .blocks ≤ lowestOpen geo image → nextSlot geo image ≡ At b 0
+  next-blank b p l = rw (none-open l, ← p)
+
+  -- the steps of rules 1 and 2, and the table that they leave, by that slot
+  pub filling-next : {b i : ℕ} → nextSlot geo image ≡ At b i → (n : ℕ) (ws : List ℕ) → filling geo image n ws ≡ placing geo image n ws b i
   unfolding filling
-  filling-blank b p l n ws = rw (none-open l, ← p)
+  filling-next e n ws = rw e
+
+  pub table-next : {b i : ℕ} → nextSlot geo image ≡ At b i → (n : ℕ) (table : Table) → tableFilled geo image n table ≡ noted geo table n (At b i)
+  unfolding tableFilled
+  table-next e n table = rw e
 
   -- what a plan to reclaim says
   pub plan-says :
@@ -129,3 +132,13 @@ module _ (geo : Geometry) (image : Image) where
   pub writing-reclaims : mustReclaim geo image ≡ true → (n : ℕ) (ws : List ℕ) → writing geo image n ws ≡ reclaimingFirst geo image (victim geo image) n ws
   unfolding writing
   writing-reclaims t n ws = rw t
+
+  -- and the table that it leaves
+  pub table-fills : mustReclaim geo image ≡ false → (n : ℕ) (table : Table) → tableWritten geo image n table ≡ tableFilled geo image n table
+  unfolding tableWritten
+  table-fills t n table = rw t
+
+  pub table-reclaims :
+      mustReclaim geo image ≡ true → (n : ℕ) (table : Table) → tableWritten geo image n table ≡ tableReclaimedFirst geo image (victim geo image) n table
+  unfolding tableWritten
+  table-reclaims t n table = rw t

@@ -14,16 +14,19 @@ use Rattle.image.specs.Words.{Image, eraseCount}
 use Rattle.image.specs.Slots.{slot, isFree, mapOf}
 use Rattle.image.specs.Blocks.{liveSlots}
 use Rattle.image.specs.WellFormed.{ceiling}
+use Rattle.tables.specs.Tables.{rightTable}
+use Rattle.tables.proofs.Laws.{right-same}
 use Rattle.flash.specs.Steps.{Step, run, wordsIn, erasuresIn, erasesBlock, leavesAsked}
 use Rattle.flash.specs.Writing.{Copied, copying, erasing}
+use Rattle.flash.specs.Tables.{tableCopied}
 use Rattle.flash.proofs.Stores.{run-append, asked-append, words-append, erasures-append}
 use Rattle.flash.proofs.Filling.{Ready}
 use Rattle.flash.proofs.Moving.{Moved, moved}
 use Rattle.flash.proofs.Clearing.{erases-append, erases-none}
 use Rattle.flash.proofs.Unused.{SparesUnused, spares-append, erasing-spares}
-use Rattle.flash.proofs.Erased.{erasing-asked, wiped-count, wiped-count-other, wiped-slot, wiped-free, wiped-map, wiped-ready}
+use Rattle.flash.proofs.Erased.{erasing-asked, wiped-count, wiped-count-other, wiped-slot, wiped-free, wiped-found, wiped-map, wiped-ready}
 
--- what the reclaim of v into t leaves, by these steps
+-- what the reclaim of v into t leaves, by these steps; a right table stays right when each copied number is noted
 pub record Reclaimed (geo : Geometry) (image : Image) (v t : ℕ) (steps : List Step) : Type 0 where
   pub asked : leavesAsked geo image steps ≡ true
   pub ready : Ready geo (run geo image steps)
@@ -38,6 +41,7 @@ pub record Reclaimed (geo : Geometry) (image : Image) (v t : ℕ) (steps : List 
   pub used : (j : ℕ) → j < liveSlots geo image v → isFree (slot geo (run geo image steps) t j) ≡ false
   pub others : (c j : ℕ) → c < geo .blocks → c ≢ v → c ≢ t → j < d geo → slot geo (run geo image steps) c j ≡ slot geo image c j
   pub map : (n : ℕ) → mapOf geo (run geo image steps) n ≡ mapOf geo image n
+  pub right : tableCopied geo image v t (rightTable geo image) (d geo) ≡ rightTable geo (run geo image steps)
 
 module _
     (geo : Geometry) (image : Image) (v t : ℕ)
@@ -56,7 +60,7 @@ module _
     abbrev all : List Step
     all = copied .steps ++ erasing geo image v
 
-    m : Moved geo image v t start victim-in target-in apart blank-slots spare (d geo) copied
+    m : Moved geo image v t start victim-in target-in apart blank-slots spare (d geo) copied (tableCopied geo image v t (rightTable geo image) (d geo))
     m = moved geo image v t start victim-in target-in apart blank-slots spare (d geo) (omega arith)
 
     taken : copied .taken ≡ liveSlots geo image v
@@ -108,4 +112,7 @@ module _
               (ap isFree (wiped-slot geo copy (m .ready) v count victim-in fits t j (λ e. apart (sym e)) (omega (arith, spare))) ∙ m .used j (omega (arith, taken)));
           others = λ c j l n n' h. rw after (wiped-slot geo copy (m .ready) v count victim-in fits c j n h ∙ m .others c j l n n' h);
           map = λ n. rw after (wiped-map geo copy (m .ready) v count victim-in fits none-live n ∙ m .map n);
+          right =
+              m .right
+              ∙ right-same geo copy (run geo image all) (λ n. rw after (wiped-found geo copy (m .ready) v count victim-in fits none-live n));
         }

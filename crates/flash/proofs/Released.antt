@@ -17,7 +17,7 @@ use Rattle.geometry.specs.Geometry.{Limits, d, k, blockLength}
 use Rattle.geometry.specs.Places.{place, eraseWord, leastWord, greatestWord, mapWord, entryWord, contentWord}
 use Rattle.geometry.proofs.Laws.{logical-small, low-in-block, entry-in-block, map-word-inside, map-covers, entry-word-inside, content-word-inside, content-word-after}
 use Rattle.image.specs.declared.Slot.the-variants.{Live, Dead}
-use Rattle.image.specs.declared.Found.the-variants.{At}
+use Rattle.image.specs.declared.Found.the-variants.{At, Nothing}
 use Rattle.image.specs.Words.{Image, Shaped, word, eraseCount, leastMapped, greatestMapped, freeMap, mapBit, entry, contents}
 use Rattle.image.specs.Slots.{validBit, slotOf, slot, isFree, isLive, isFaulty, find, mapOf}
 use Rattle.image.specs.Blocks.{blank, full, freeSlots}
@@ -25,10 +25,13 @@ use Rattle.image.specs.WellFormed.{R6}
 use Rattle.image.proofs.Entries.{dead-slot, released-entry}
 use Rattle.image.proofs.Reading.{entry-inside}
 use Rattle.image.proofs.Facts.{Sound, live-word}
-use Rattle.image.proofs.Finding.{LiveAt, found-live, none-found, map-nothing, map-same}
+use Rattle.image.proofs.Finding.{LiveAt, found-live, none-found, map-nothing, find-same, map-same}
 use Rattle.image.proofs.Places.{apart, contents-at, contents-are, contents-long}
+use Rattle.tables.specs.Tables.{rightTable}
+use Rattle.tables.proofs.Laws.{right-noted}
 use Rattle.flash.specs.Steps.{Step, run, wordsIn, erasuresIn, leavesAsked}
 use Rattle.flash.specs.Placing.{programsEntry, releasing}
+use Rattle.flash.specs.Tables.{tableReleased}
 use Rattle.flash.proofs.Stores.{Exact, last-here, last-other, exact-one, run-words}
 use Rattle.flash.proofs.Counts.{releasing-words, releasing-erasures}
 use Rattle.flash.proofs.Filling.{Ready}
@@ -165,19 +168,18 @@ module _ (geo : Geometry) (image : Image) (n b i : ℕ) (start : Ready geo image
             (rw (bounds c .0) (were .0), rw (bounds c .1) (were .1));
       }
 
-  gone : mapOf geo after n ≡ none
+  -- n is found nowhere, and every other number where it was
+  gone : find geo after n ≡ Nothing
   gone =
-      map-nothing geo after n
-      (none-found geo after n
+      none-found geo after n
       (λ c j l h e.
       let same = start .sound .once n c b j i l (at .block) h (at .slot-of) (live-was n c j h e) (at .live) in
-      not-live (ap isLive (released-at (same .0) (same .1))) e))
+      not-live (ap isLive (released-at (same .0) (same .1))) e)
 
-  kept : (m : ℕ) → m ≢ n → mapOf geo after m ≡ mapOf geo image m
+  kept : (m : ℕ) → m ≢ n → find geo after m ≡ find geo image m
   kept m x =
-      map-same geo image after m (start .sound) sound-after
-      (λ c j l h e.
-      (at-slot c j b i (λ p q. absurd (x (same-number e (was-at p q)))) (λ o. slot-other c j h o ∙ e), contents-same c j l h))
+      find-same geo image after m sound-after
+      (λ c j l h e. at-slot c j b i (λ p q. absurd (x (same-number e (was-at p q)))) (λ o. slot-other c j h o ∙ e))
       (λ c j l h e. live-was m c j h e)
 
   steps-are : releasing geo image n ≡ steps
@@ -199,8 +201,13 @@ module _ (geo : Geometry) (image : Image) (n b i : ℕ) (start : Ready geo image
               sound = sound-after;
             };
         still-blank = any-ext (geo .blocks) (λ c l. blank-same c);
-        here = gone;
-        other = kept;
+        here = map-nothing geo after n gone;
+        other = λ m x. map-same geo image after m (kept m x) (λ c j l h e. contents-same c j l h);
         free = sum-ext (geo .blocks) (λ c l. sum-ext (d geo) (λ j h. ap one-if (free-same c j h)));
         worn = sum-ext (geo .blocks) (λ c l. counts c);
       })
+
+  -- so a right table stays right when n is noted as live nowhere
+  pub releasing-right : tableReleased geo n (rightTable geo image) ≡ rightTable geo (run geo image (releasing geo image n))
+  unfolding tableReleased
+  releasing-right = rw steps-are (right-noted geo image after n Nothing gone kept)

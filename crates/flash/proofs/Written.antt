@@ -1,4 +1,5 @@
--- A whole write, by rules 1 and 2 and by rule 3: what it leaves, what it costs and what it pays. Assumes nothing.
+-- A whole write, by rules 1 and 2 and by rule 3: what it leaves, what it costs and what it pays, and that a right table stays right.
+-- Assumes nothing.
 use mathlib.Core.Path.{_≡_, refl, sym, ap, ap₂, _∙_}
 use mathlib.Core.Logic.{_≢_}
 use mathlib.Core.Bool.{Bool, true, false, _&&_, _||_, true≢false}
@@ -21,17 +22,19 @@ use Rattle.image.specs.Slots.{slot, isFree, find, mapOf, isAt}
 use Rattle.image.specs.Blocks.{blank, full, isOpen, freeSlots, liveSlots, deadSlots, lessWorn, leastWornBlank, preferred, victim}
 use Rattle.image.specs.WellFormed.{ceiling, R6}
 use Rattle.image.proofs.Capacity.{block-parts, blank-free, full-free, shut-full, blank-not-full, free-is-a-block, victim-dead}
+use Rattle.tables.specs.Tables.{rightTable}
 use Rattle.flash.specs.Steps.{Step, run, wordsIn, erasuresIn, erasesBlock, leavesAsked}
 use Rattle.flash.specs.Placing.{placing}
-use Rattle.flash.specs.Writing.{FoundInPlace, filling, mustReclaim, reclaiming, reclaimingFirst, writing}
+use Rattle.flash.specs.Writing.{FoundInPlace, filling, mustReclaim, copying, reclaiming, reclaimingFirst, writing}
+use Rattle.flash.specs.Tables.{tableReclaimed, tableFilled, tableReclaimedFirst, tableWritten}
 use Rattle.flash.proofs.Stores.{run-append, asked-append, words-append, erasures-append}
 use Rattle.flash.proofs.Clearing.{erases-append, erases-none}
 use Rattle.flash.proofs.Counts.{placing-erasures, filling-erases-nothing}
 use Rattle.flash.proofs.Unused.{SparesUnused, spares-append, placing-spares}
 use Rattle.flash.proofs.Filling.{Ready, Target}
 use Rattle.flash.proofs.Placed.{Placed, placing-exact, placing-placed, placing-bounds, placing-cost, placing-shaped, placing-words32}
-use Rattle.flash.proofs.Kept.{free-as-before, placed-sound, placed-here, placed-other, placed-free}
-use Rattle.flash.proofs.Moving.{found-in-place}
+use Rattle.flash.proofs.Kept.{free-as-before, placed-sound, placed-right, placed-here, placed-other, placed-free}
+use Rattle.flash.proofs.Moving.{moved, found-in-place}
 use Rattle.flash.proofs.Reclaimed.{Reclaimed, reclaimed}
 use Rattle.flash.proofs.Chosen.{Choice, blank-slot, slots-blank, choice, reclaim-says}
 
@@ -138,7 +141,15 @@ module _ (geo : Geometry) (image : Image) (n : ℕ) (ws : List ℕ) (start : Rea
       }
 
   pub filling-wrote : (v : ℕ) → Wrote geo image n ws v (filling geo image n ws)
-  filling-wrote v = rw (c .chosen .steps n ws) (placed-wrote v)
+  unfolding filling
+  filling-wrote v = rw (c .chosen .at) (placed-wrote v)
+
+  -- a right table stays right when n is noted in the chosen slot
+  pub filling-right : tableFilled geo image n (rightTable geo image) ≡ rightTable geo (run geo image (filling geo image n ws))
+  unfolding filling tableFilled
+  filling-right =
+      rw (c .chosen .at)
+      (placed-right geo image after n ws b i start target p (placing-bounds geo image n ws b i start target) (placing-words32 geo image n ws b i start target))
 
 -- ---- rule 3, with any full block of at least g dead slots whose count is below the ceiling
 
@@ -198,6 +209,18 @@ module _
 
     pub victim-in-place : FoundInPlace geo image v t
     victim-in-place = found-in-place geo image v t start (victim-is .block) blank-in apart (blank-slot geo image t is-blank) spare
+
+    -- a slot of the victim is as it was at the start when it has its turn
+    pub victim-at-turn :
+        (m : ℕ) → m < d geo → slot geo (run geo image (copying geo image v t m .steps)) v m ≡ slot geo image v m
+    victim-at-turn m l =
+        moved geo image v t start (victim-is .block) blank-in apart (blank-slot geo image t is-blank) spare m (omega arith)
+        .later m (omega arith) l
+
+    -- a right table stays right when each copied number is noted where it was placed: the erasing moves none
+    pub reclaiming-right : tableReclaimed geo image v (rightTable geo image) ≡ rightTable geo base
+    unfolding tableReclaimed
+    reclaiming-right = r .right
 
     -- afterwards no reclaim is needed: the victim is blank, and the other block is open or blank too
     victim-blank : blank geo base v ≡ true
@@ -314,6 +337,13 @@ module _
             low = λ e. free-is-a-block geo image (start .sound) limits none-open one-blank;
           }
 
+      -- and it stays right when n is then noted in the slot that was taken for it
+      pub reclaiming-first-right :
+          tableReclaimedFirst geo image v n (rightTable geo image) ≡ rightTable geo (run geo image (reclaimingFirst geo image v n ws))
+      unfolding reclaimingFirst tableReclaimedFirst
+      reclaiming-first-right =
+          rw (same-image, reclaiming-right) (filling-right geo base n ws (r .ready) sector reclaim-choice)
+
 -- ---- the write
 
 -- the victim by the usual rule is such a block, unless its count is at the ceiling
@@ -354,19 +384,36 @@ module _ (geo : Geometry) (image : Image) (start : Ready geo image) (must : must
       }
 
 -- an accepted write
-pub writing-wrote :
-    (geo : Geometry) (image : Image) (n : ℕ) (ws : List ℕ) →
-    Ready geo image →
-    R6 geo image ≡ true →
-    Sector geo n ws →
-    (mustReclaim geo image ≡ true → eraseCount geo image (victim geo image) ≡ ceiling → ⊥) →
-    Wrote geo image n ws (victim geo image) (writing geo image n ws)
-unfolding writing R6
-writing-wrote geo image n ws start formed sector below = go (mustReclaim geo image) refl
+module _
+    (geo : Geometry) (image : Image) (n : ℕ) (ws : List ℕ)
+    (start : Ready geo image)
+    (formed : R6 geo image ≡ true)
+    (sector : Sector geo n ws)
+    (below : mustReclaim geo image ≡ true → eraseCount geo image (victim geo image) ≡ ceiling → ⊥)
   where
-    go : (x : Bool) → mustReclaim geo image ≡ x → Wrote geo image n ws (victim geo image) (writing geo image n ws)
-    go true must =
-        rw must (reclaiming-wrote geo image start must (victim geo image) (victim-reclaimable geo image start must (below must)) n ws sector)
-    go false no-need =
+    -- the block that rule 3 reclaims, or the slot that rules 1 and 2 take
+    by-reclaim : mustReclaim geo image ≡ true → Reclaimable geo image (victim geo image)
+    by-reclaim must = victim-reclaimable geo image start must (below must)
+
+    by-choice : mustReclaim geo image ≡ false → Choice geo image
+    unfolding R6
+    by-choice no-need =
         let empty = any-at (geo .blocks) (blank geo image) formed in
-        rw no-need (filling-wrote geo image n ws start sector (choice geo image (start .shaped .limits) (empty .1) (empty .2) no-need) (victim geo image))
+        choice geo image (start .shaped .limits) (empty .1) (empty .2) no-need
+
+    pub writing-wrote : Wrote geo image n ws (victim geo image) (writing geo image n ws)
+    unfolding writing
+    writing-wrote = go (mustReclaim geo image) refl
+      where
+        go : (x : Bool) → mustReclaim geo image ≡ x → Wrote geo image n ws (victim geo image) (writing geo image n ws)
+        go true must = rw must (reclaiming-wrote geo image start must (victim geo image) (by-reclaim must) n ws sector)
+        go false no-need = rw no-need (filling-wrote geo image n ws start sector (by-choice no-need) (victim geo image))
+
+    -- a right table stays right: with a reclaim or without, each number is noted in the slot where it was placed
+    pub writing-right : tableWritten geo image n (rightTable geo image) ≡ rightTable geo (run geo image (writing geo image n ws))
+    unfolding writing tableWritten
+    writing-right = go (mustReclaim geo image) refl
+      where
+        go : (x : Bool) → mustReclaim geo image ≡ x → tableWritten geo image n (rightTable geo image) ≡ rightTable geo (run geo image (writing geo image n ws))
+        go true must = rw must (reclaiming-first-right geo image start must (victim geo image) (by-reclaim must) n ws sector)
+        go false no-need = rw no-need (filling-right geo image n ws start sector (by-choice no-need))

@@ -8,7 +8,8 @@ use Rattle.ranges.specs.Range.{anyBelow, countBelow}
 use Rattle.geometry.specs.declared.Geometry.{Geometry}
 use Rattle.geometry.specs.Geometry.{d}
 use Rattle.geometry.specs.Places.{place, eraseWord}
-use Rattle.image.specs.declared.Found.the-variants.{At}
+use Rattle.image.specs.declared.Found.{Found}
+use Rattle.image.specs.declared.Found.the-variants.{At, Nothing}
 use Rattle.image.specs.declared.Slot.{Slot}
 use Rattle.image.specs.declared.Slot.the-variants.{Free, Live, Dead, Faulty}
 use Rattle.image.specs.Words.{Image, eraseCount, contents}
@@ -26,20 +27,29 @@ pub record Copied : Type 0 where
   pub taken : ℕ
 
 module _ (geo : Geometry) where
-  -- rule 1: in the first free slot of the first open block
-  abbrev pub inOpenBlock : Image → ℕ → List ℕ → List Step
-  inOpenBlock image n ws = placing geo image n ws (lowestOpen geo image) (lowestFree geo image (lowestOpen geo image))
+  -- rule 1: the first free slot of the first open block
+  abbrev pub openSlot : Image → Found
+  openSlot image = At (lowestOpen geo image) (lowestFree geo image (lowestOpen geo image))
 
-  -- rule 2: in slot 0 of the least worn blank block
-  abbrev pub inBlankBlock : Image → ℕ → List ℕ → List Step
-  inBlankBlock image n ws = placing geo image n ws (leastWornBlank geo image) 0
+  -- rule 2: slot 0 of the least worn blank block
+  abbrev pub blankSlot : Image → Found
+  blankSlot image = At (leastWornBlank geo image) 0
 
   abbrev pub anyOpen : Image → Bool
   anyOpen image = anyBelow (geo .blocks) (isOpen geo image)
 
-  -- rule 1 where a block is open, and else rule 2
+  -- the slot of the next write: by rule 1 where a block is open, and else by rule 2. It is always a place, never `Nothing`
+  abbrev pub nextSlot : Image → Found
+  nextSlot image = cond (anyOpen image) (openSlot image) (blankSlot image)
+
+  -- n placed in a slot that is given as a place
+  abbrev pub placingAt : Image → ℕ → List ℕ → Found → List Step
+  placingAt image n ws (At b i) = placing geo image n ws b i
+  placingAt image n ws Nothing = []
+
+  -- rules 1 and 2: n placed in that slot
   unfoldable pub filling : Image → ℕ → List ℕ → List Step
-  filling image n ws = cond (anyOpen image) (inOpenBlock image n ws) (inBlankBlock image n ws)
+  filling image n ws = placingAt image n ws (nextSlot image)
 
   -- rule 3 applies: no block is open, and a single one is blank
   unfoldable pub mustReclaim : Image → Bool

@@ -85,6 +85,15 @@ g-none geo full =
     let none : room geo - geo .logical ≡ 0 = omega arith in
     rw (none, rounded-up-none)
 
+-- places counted through rows of w: the row of a place, and that two places are equal only if row and place in the row are
+pub row-of : (w b i : ℕ) → i < w → (b * w + i) / w ≡ b
+row-of w b i h = div-eq-of-lt-le w (omega arith) (omega arith)
+
+pub rows-apart : (w b c i j : ℕ) → i < w → j < w → b * w + i ≡ c * w + j → (b ≡ c) × (i ≡ j)
+rows-apart w b c i j h l e =
+    let same : b ≡ c = sym (row-of w b i h) ∙ ap (_/ w) e ∙ row-of w c j l in
+    (same, omega (arith, ap (_* w) same))
+
 module _ (geo : Geometry) where
   -- a block ends within the image
   pub block-inside : {b : ℕ} → b < geo .blocks → place geo b (blockLength geo) ≤ imageLength geo
@@ -96,7 +105,7 @@ module _ (geo : Geometry) where
 
   -- the block of a place is the place divided by a block's length
   pub place-block : (b j : ℕ) → j < blockLength geo → place geo b j / blockLength geo ≡ b
-  place-block b j h = div-eq-of-lt-le (blockLength geo) (omega arith) (omega arith)
+  place-block b j h = row-of (blockLength geo) b j h
 
   -- two places are equal only if block and word are
   pub place-injective :
@@ -105,9 +114,7 @@ module _ (geo : Geometry) where
       j < blockLength geo →
       place geo b i ≡ place geo c j →
       (b ≡ c) × (i ≡ j)
-  place-injective b c i j h l e =
-      let same : b ≡ c = sym (place-block b i h) ∙ ap (_/ blockLength geo) e ∙ place-block c j l in
-      (same, omega (arith, ap (_* blockLength geo) same))
+  place-injective = rows-apart (blockLength geo)
 
   -- two words of contents are the same word of the block only if slot and word are
   pub content-word-injective :

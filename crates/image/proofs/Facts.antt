@@ -18,7 +18,7 @@ use Rattle.image.specs.declared.Slot.the-variants.{Free, Live, Dead, Fau
 use Rattle.image.specs.Words.{Image, Words32, eraseCount, leastMapped, greatestMapped, mapBit, entry, contents}
 use Rattle.image.specs.Slots.{slot, isFree, isFaulty, isLiveWith, isLiveFor, liveIn}
 use Rattle.image.specs.Blocks.{full}
-use Rattle.image.specs.WellFormed.{ceiling, allOnes, mapAgrees, restSet, liveBefore, outOfBounds, R1, R2, R3, R4, R5, R7, soundBlock, sound, MapsAgree}
+use Rattle.image.specs.WellFormed.{ceiling, allOnes, mapAgrees, restSet, liveBefore, outOfBounds, R1, R2, R3, R4, R5, R6, R7, soundBlock, sound, wellFormed, MapsAgree}
 use Rattle.image.proofs.Entries.{live-entry}
 use Rattle.image.proofs.Reading.{map-says, map-rest, free-read}
 
@@ -259,3 +259,16 @@ module _ (geo : Geometry) (image : Image) where
   -- what the code asks of every block's map
   pub sound-maps : Sound geo image → MapsAgree geo image
   sound-maps s = record { agrees = λ b l. kept-2 s b l }
+
+  -- a well-formed image: the rules of its blocks, and a blank one
+  pub formed-sound : wellFormed geo image ≡ true → sound geo image ≡ true
+  unfolding wellFormed
+  formed-sound t = both-pass (sound geo image) (R6 geo image) t .0
+
+  pub formed-blank : wellFormed geo image ≡ true → R6 geo image ≡ true
+  unfolding wellFormed
+  formed-blank t = both-pass (sound geo image) (R6 geo image) t .1
+
+  pub facts-formed : Sound geo image → R6 geo image ≡ true → wellFormed geo image ≡ true
+  unfolding wellFormed
+  facts-formed s blank = rw (facts-sound s, blank)

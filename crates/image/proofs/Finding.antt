@@ -95,26 +95,38 @@ module _ (geo : Geometry) (image : Image) where
   pub map-nothing : (n : ℕ) → find geo image n ≡ Nothing → mapOf geo image n ≡ none
   map-nothing n e = rw e
 
--- two images whose slots are live for n at the same places, with the same contents there, map n alike
+-- two images whose slots are live for n at the same places find n alike: by R5 the second has no other slot that is live for n
+pub find-same :
+    (geo : Geometry) (image image' : Image) (n : ℕ) →
+    Sound geo image' →
+    ((b i : ℕ) → b < geo .blocks → i < d geo → slot geo image b i ≡ Live n → slot geo image' b i ≡ Live n) →
+    ((b i : ℕ) → b < geo .blocks → i < d geo → slot geo image' b i ≡ Live n → slot geo image b i ≡ Live n) →
+    find geo image' n ≡ find geo image n
+find-same geo image image' n s' there back = go (find geo image n) refl
+  where
+    go : (f : Found) → find geo image n ≡ f → find geo image' n ≡ find geo image n
+    go (At b i) e =
+        let at = found-live geo image n b i e in
+        live-found geo image' s' n b i
+        (record { block = at .block; slot-of = at .slot-of; live = there b i (at .block) (at .slot-of) (at .live) })
+        ∙ sym e
+    go Nothing e = none-found geo image' n (λ b i l h q. found-nothing geo image n e b i l h (back b i l h q)) ∙ sym e
+
+-- two images that find n alike, with the same contents where it is live, map n alike
 pub map-same :
     (geo : Geometry) (image image' : Image) (n : ℕ) →
-    Sound geo image →
-    Sound geo image' →
-    ((b i : ℕ) → b < geo .blocks → i < d geo → slot geo image b i ≡ Live n → (slot geo image' b i ≡ Live n) × (contents geo image' b i ≡ contents geo image b i)) →
-    ((b i : ℕ) → b < geo .blocks → i < d geo → slot geo image' b i ≡ Live n → slot geo image b i ≡ Live n) →
+    find geo image' n ≡ find geo image n →
+    ((b i : ℕ) → b < geo .blocks → i < d geo → slot geo image b i ≡ Live n → contents geo image' b i ≡ contents geo image b i) →
     mapOf geo image' n ≡ mapOf geo image n
-map-same geo image image' n s s' there back = go (find geo image n) refl
+map-same geo image image' n same kept = go (find geo image n) refl
   where
     go : (f : Found) → find geo image n ≡ f → mapOf geo image' n ≡ mapOf geo image n
     go (At b i) e =
         let at = found-live geo image n b i e in
-        let kept = there b i (at .block) (at .slot-of) (at .live) in
-        map-at geo image' n b i (live-found geo image' s' n b i (record { block = at .block; slot-of = at .slot-of; live = kept .0 }))
-        ∙ ap some (kept .1)
+        map-at geo image' n b i (same ∙ e)
+        ∙ ap some (kept b i (at .block) (at .slot-of) (at .live))
         ∙ sym (map-at geo image n b i e)
-    go Nothing e =
-        map-nothing geo image' n (none-found geo image' n (λ b i l h q. found-nothing geo image n e b i l h (back b i l h q)))
-        ∙ sym (map-nothing geo image n e)
+    go Nothing e = map-nothing geo image' n (same ∙ e) ∙ sym (map-nothing geo image n e)
 
 -- ---- what settles the search: the slots before
 

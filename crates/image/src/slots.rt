@@ -1,7 +1,9 @@
+ghost use mathlib.Core.Bool.{_&&_};
 ghost use mathlib.Core.Path.{_≡_};
 ghost use Prim.Native.Nat.{_<_};
+ghost use lib.Dec.{eqb};
 ghost use lib.ListN.{length};
-ghost use Rattle.geometry.specs.Geometry.{d, sectorWords};
+ghost use Rattle.geometry.specs.Geometry.{d, sectorWords, imageLength, withinLimits};
 ghost use Rattle.image.specs.Words.{Shaped, Words32, contents};
 ghost use Rattle.image.specs.Slots.{slotOf, slot, find};
 use super::Found;
@@ -86,4 +88,14 @@ pub fn words_in(words: &[u32]) -> usize
     ensures { λ _. ⌜ Words32 (now (words .entry)) ⌝ }
 {
     length(words)
+}
+
+// Whether the geometry is within its limits and the image has its length: row 1 of the refusals, turned round.
+pub fn fits(image: &[u32], geo: Geometry) -> bool
+    ensures { λ r. ⌜ r ≡ (withinLimits geo && eqb (length (now (image .entry))) (imageLength geo)) ⌝ }
+{
+    if !geo.within_limits() {
+        return false;
+    }
+    words_in(image) == geo.length()
 }

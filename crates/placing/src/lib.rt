@@ -1,12 +1,15 @@
 // Placing a sector in a slot, (a) to (g), and releasing one.
-ghost use mathlib.Core.Bool.{not};
+ghost use mathlib.Core.Bool.{not, true};
 ghost use mathlib.Core.Path.{_≡_};
 ghost use Prim.Native.Nat.{_<_};
 ghost use lib.ListN.{length};
 ghost use Rattle.geometry.specs.Geometry.{d, sectorWords};
+ghost use Rattle.image.specs.declared.Found.the-variants.{At};
 ghost use Rattle.image.specs.Words.{Shaped};
 ghost use Rattle.image.specs.Slots.{find};
 ghost use Rattle.image.specs.Blocks.{full};
+ghost use Rattle.image.specs.WellFormed.{sound};
+ghost use Rattle.tables.specs.Tables.{noted};
 ghost use Rattle.flash.specs.Steps.{run, wordsIn};
 ghost use Rattle.flash.specs.Placing.{InImage, entryAt, programsEntry, takesSlot, storesContents, liveBounds, closesBlock, placing, releasing};
 use flash::LiveBounds;
@@ -14,8 +17,10 @@ use flash::steps::program;
 use geometry::Geometry;
 use image::Found;
 use image::Slot;
-use image::slots::find;
 use image::slots::slot_of;
+use tables::look_up;
+use tables::note;
+use tables::word_at;
 
 // (a): the map word with the slot's bit cleared.
 fn take_slot(image: &mut [u32], geo: Geometry, b: usize, i: usize)
@@ -170,28 +175,42 @@ pub fn place_over(
     131 + first + last + close_block(image, geo, b)
 }
 
-// Places n, wherever it was before: it is looked up first.
-pub fn place(image: &mut [u32], geo: Geometry, n: u32, words: &[u32], b: usize, i: usize) -> u32
+// Places n, wherever it was before: it is looked up first, and noted where it is now.
+pub fn place(
+    image: &mut [u32],
+    geo: Geometry,
+    n: u32,
+    words: &[u32],
+    b: usize,
+    i: usize,
+    table: &mut [u16],
+) -> u32
     requires { ⌜ Shaped geo (now image) ⌝ }
+    requires { ⌜ sound geo (now image) ≡ true ⌝ }
     requires { ⌜ n < geo .logical ⌝ }
     requires { ⌜ length (now words) ≡ sectorWords ⌝ }
     requires { ⌜ b < geo .blocks ⌝ }
     requires { ⌜ i < d geo ⌝ }
     ensures { λ r. ⌜ r ≡ wordsIn (placing geo (now (image .entry)) n (now (words .entry)) b i) ⌝ }
     ensures { λ r. ⌜ now (image .exit) ≡ run geo (now (image .entry)) (placing geo (now (image .entry)) n (now (words .entry)) b i) ⌝ }
+    ensures { λ r. ⌜ now (table .exit) ≡ noted geo (now (table .entry)) n (At b i) ⌝ }
 {
-    let old = find(image, geo, n);
-    place_over(image, geo, n, words, b, i, old)
+    let old = look_up(image, geo, n, table);
+    let programmed = place_over(image, geo, n, words, b, i, old);
+    note(table, n, word_at(geo, b, i));
+    programmed
 }
 
-// Releases n: its live entry with bit 31 cleared, if there is one. Returns how many words were programmed.
-pub fn release(image: &mut [u32], geo: Geometry, n: u32) -> u32
+// Releases n: its live entry with bit 31 cleared, if there is one. Returns how many words were programmed. The table is only looked at: a
+// release of a number that is not live is refused by the caller, and is to leave the table.
+pub fn release(image: &mut [u32], geo: Geometry, n: u32, table: &[u16]) -> u32
     requires { ⌜ Shaped geo (now image) ⌝ }
+    requires { ⌜ sound geo (now image) ≡ true ⌝ }
     requires { ⌜ n < geo .logical ⌝ }
     ensures { λ r. ⌜ r ≡ wordsIn (releasing geo (now (image .entry)) n) ⌝ }
     ensures { λ r. ⌜ now (image .exit) ≡ run geo (now (image .entry)) (releasing geo (now (image .entry)) n) ⌝ }
 {
-    let live = find(image, geo, n);
+    let live = look_up(image, geo, n, table);
     let invalid = bits::clear_bit(entry_at(image, geo, live), 31);
     program_entry(image, geo, live, invalid)
 }

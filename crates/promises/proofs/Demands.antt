@@ -14,6 +14,7 @@ use Rattle.image.specs.Words.{Image}
 use Rattle.image.specs.Slots.{find, mapOf}
 use Rattle.image.specs.Blocks.{victim}
 use Rattle.image.specs.Faults.{firstFault}
+use Rattle.image.proofs.Facts.{facts-formed}
 use Rattle.image.proofs.Finding.{map-at, map-nothing}
 use Rattle.flash.specs.Steps.{Step, run, erasuresIn, erasesBlock}
 use Rattle.flash.specs.Placing.{releasing}
@@ -25,13 +26,13 @@ use Rattle.flash.proofs.Planned.{writing-fills}
 use Rattle.answers.specs.declared.Answer.the-variants.{Accepted, BadGeometry, BadBuffer, BadNumber, Malformed, Unmapped}
 use Rattle.answers.specs.Answers.{numberOf}
 use Rattle.answers.proofs.Acceptance.{if-accepted, if-refused, accepted?}
-use Rattle.shellwaltz.specs.Refusals.{formatRows, checkRows, readRows, writeRows, releaseRows, formatAnswer, checkAnswer, readAnswer, writeAnswer, releaseAnswer, row1, row2, row3, row4}
-use Rattle.shellwaltz.specs.Calls.{fresh, formatted, totalsOf, noTotals, reported, copiedFrom, readBuffer, writeSteps, releaseSteps, outcome}
+use Rattle.calls.specs.Refusals.{oneSector, formatRows, checkRows, readRows, writeRows, releaseRows, formatAnswer, checkAnswer, readAnswer, writeAnswer, releaseAnswer, row1, row2, row3, row4}
+use Rattle.calls.specs.Calls.{fresh, formatted, totalsOf, noTotals, reported, copiedFrom, readBuffer, writeSteps, releaseSteps, outcome}
 use Rattle.promises.specs.Runs.{ran, started}
 use Rattle.promises.specs.Demands.{Refusals, EveryAnswerNamesThePair, RefusedChangesNothing, ReadReturnsTheMap, WriteSetsOneSector, ReleaseRemovesOneSector, AStepOnlyClears, ProgrammingOnlyClears, OnlyTheVictimIsErased, StepsLeaveTheAskedWord, WriteBound, RunBound, RunBoundFromAny}
-use Rattle.shellwaltz.proofs.CallLaws.{formed-ready}
+use Rattle.calls.proofs.CallLaws.{formed-ready}
 use Rattle.promises.proofs.Given.{given-exactly, names-the-pair, if-either}
-use Rattle.promises.proofs.Accepted.{check-accepted, format-accepted, read-accepted, ready-formed, write-steps, write-wrote, release-steps, release-blank, release-released}
+use Rattle.promises.proofs.Accepted.{check-accepted, format-accepted, read-accepted, write-steps, write-wrote, release-steps, release-blank, release-released}
 use Rattle.promises.proofs.Fresh.{fresh-ready, fresh-blank, fresh-frees, fresh-worn}
 use Rattle.promises.proofs.Running.{runs}
 
@@ -112,7 +113,7 @@ read-returns-the-map geo image n buffer = (
     unmapped : (f : Found) → find geo image n ≡ f → readAnswer geo image n buffer ≡ Unmapped → mapOf geo image n ≡ none
     unmapped (At b i) e answer =
         absurd
-        (not-given (row1 geo image .applies) (row2 geo image buffer .applies) (row3 geo image n .applies) (row4 geo image .applies)
+        (not-given (row1 geo image .applies) (row2 geo image (oneSector buffer) .applies) (row3 geo image n .applies) (row4 geo image .applies)
         (firstFault geo image .block) (firstFault geo image .rule)
         (rw e at answer))
     unmapped Nothing e answer = map-nothing geo image n e
@@ -153,7 +154,7 @@ write-sets-one-sector geo image n buffer words handed accepted =
     let same = write-steps geo image n buffer words handed accepted in
     let w = write-wrote geo image n buffer words handed accepted in (
       ap (run geo image) same,
-      rw same (ready-formed geo (run geo image (writing geo image n buffer)) (w .ready) (w .still-blank)),
+      rw same (facts-formed geo (run geo image (writing geo image n buffer)) (w .ready .sound) (w .still-blank)),
       rw same (w .here),
       λ m x. rw same (w .other m x),
     )
@@ -163,7 +164,7 @@ release-removes-one-sector geo image n words accepted =
     let same = release-steps geo image n words accepted in
     let r = release-released geo image n words accepted in (
       ap (run geo image) same,
-      rw same (ready-formed geo (run geo image (releasing geo image n)) (r .ready) (r .still-blank ∙ release-blank geo image n words accepted)),
+      rw same (facts-formed geo (run geo image (releasing geo image n)) (r .ready .sound) (r .still-blank ∙ release-blank geo image n words accepted)),
       rw same (r .here),
       λ m x. rw same (r .other m x),
     )

@@ -23,12 +23,12 @@ use Rattle.image.specs.Slots.{slotOf, slot, isFree, isFaulty, mapOf}
 use Rattle.image.specs.Blocks.{blank, full, freeSlots}
 use Rattle.image.specs.WellFormed.{R6, sound, wellFormed}
 use Rattle.image.proofs.Entries.{free-slot}
-use Rattle.image.proofs.Facts.{Sound, facts-sound}
+use Rattle.image.proofs.Facts.{Sound, facts-formed}
 use Rattle.image.proofs.Finding.{none-found, map-nothing}
 use Rattle.image.proofs.Places.{apart, contents-at}
 use Rattle.flash.proofs.Filling.{Ready}
 use Rattle.flash.proofs.Kept.{free-not-live}
-use Rattle.shellwaltz.specs.Calls.{countsZeroed, fresh}
+use Rattle.calls.specs.Calls.{countsZeroed, fresh}
 
 module _ (geo : Geometry) (within : Limits geo) where
   abbrev blank-words : Image
@@ -163,8 +163,7 @@ module _ (geo : Geometry) (within : Limits geo) where
       any-of (geo .blocks) (blank geo made) first (all-of (d geo) (λ i h. ap isFree (fresh-free 0 i first h)))
 
   pub fresh-formed : wellFormed geo made ≡ true
-  unfolding wellFormed
-  fresh-formed = rw (facts-sound geo made fresh-sound, fresh-blank)
+  fresh-formed = facts-formed geo made fresh-sound fresh-blank
 
   -- an empty map, B·d free slots, no erasure
   pub fresh-map : (n : ℕ) → mapOf geo made n ≡ none

@@ -13,8 +13,8 @@ use Rattle.answers.specs.declared.Answer.{Answer}
 use Rattle.answers.specs.declared.Answer.the-variants.{Accepted}
 use Rattle.answers.specs.Answers.{numberOf, blockOf, ruleOf, ifAccepted}
 use Rattle.answers.proofs.Acceptance.{accepted-number, accepted?, if-accepted, if-refused, others-name-none}
-use Rattle.shellwaltz.specs.Refusals.{Row, firstThatApplies, row4}
-use Rattle.shellwaltz.proofs.Rows.{numbered, numbered-parts}
+use Rattle.calls.specs.Refusals.{Row, firstThatApplies, row4}
+use Rattle.calls.proofs.Rows.{numbered, numbered-parts}
 use Rattle.promises.specs.Demands.{isFirst, noneApplies, GivenExactly, NamesThePair}
 
 -- the number of what is given is that of the first row that applies

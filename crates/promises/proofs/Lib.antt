@@ -4,3 +4,4 @@ pub mod Fresh
 pub mod Running
 pub mod Demands
 pub mod Properties
+pub mod Tables

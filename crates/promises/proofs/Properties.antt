@@ -6,16 +6,15 @@ use mathlib.Core.Option.{some, none}
 use Prim.Native.Nat.{ℕ}
 use native.Mathlib.Omega.{arith}
 use lib.ListN.{length}
-use Rattle.ranges.proofs.Tests.{both-pass}
 use Rattle.geometry.specs.declared.Geometry.{Geometry}
 use Rattle.geometry.specs.Places.{place}
 use Rattle.image.specs.declared.Found.{Found}
 use Rattle.image.specs.declared.Found.the-variants.{At, Nothing}
 use Rattle.image.specs.Words.{Image, contents}
 use Rattle.image.specs.Slots.{find, mapOf}
-use Rattle.image.specs.WellFormed.{R6, sound, wellFormed}
+use Rattle.image.specs.WellFormed.{wellFormed}
 use Rattle.image.proofs.Capacity.{image-parts, live-at-most}
-use Rattle.image.proofs.Facts.{sound-facts}
+use Rattle.image.proofs.Facts.{sound-facts, formed-sound, facts-formed}
 use Rattle.image.proofs.Finding.{live-found, map-at, map-nothing}
 use Rattle.flash.specs.Steps.{run, programsWord}
 use Rattle.flash.specs.Placing.{releasing}
@@ -24,17 +23,16 @@ use Rattle.flash.proofs.Counts.{placing-words}
 use Rattle.flash.proofs.Unused.{spares-none, releasing-spares}
 use Rattle.answers.specs.declared.Answer.the-variants.{Accepted}
 use Rattle.answers.proofs.Acceptance.{if-accepted, if-refused, accepted?}
-use Rattle.shellwaltz.specs.Refusals.{checkAnswer, readAnswer, writeAnswer, releaseAnswer}
-use Rattle.shellwaltz.specs.Calls.{fresh, formatted, totalsOf, noTotals, reported, readBuffer, writeSteps, releaseSteps}
+use Rattle.calls.specs.Refusals.{checkAnswer, readAnswer, writeAnswer, releaseAnswer}
+use Rattle.calls.specs.Calls.{fresh, formatted, totalsOf, noTotals, reported, readBuffer, writeSteps, releaseSteps}
 use Rattle.promises.specs.Properties.{TheOneSlot, FormatMakesAFreshImage, ReportAddsUp, OthersReadAsBefore, UnusedWordsAreNotProgrammed, PlacingCosts, WearAndFreeSlots}
-use Rattle.promises.proofs.Accepted.{check-accepted, format-accepted, ready-formed, write-accepted, write-steps, write-wrote, release-accepted, release-steps, release-blank, release-released}
+use Rattle.promises.proofs.Accepted.{check-accepted, format-accepted, write-accepted, write-steps, write-wrote, release-accepted, release-steps, release-blank, release-released}
 use Rattle.promises.proofs.Fresh.{fresh-formed, fresh-map, fresh-frees, fresh-worn}
-use Rattle.shellwaltz.proofs.CallLaws.{formed-ready}
+use Rattle.calls.proofs.CallLaws.{formed-ready}
 
 pub the-one-slot : TheOneSlot
-unfolding wellFormed
 the-one-slot geo image n b c i j checked l l' h h' e =
-    let s = sound-facts geo image (both-pass (sound geo image) (R6 geo image) (check-accepted geo image checked .1) .0) in
+    let s = sound-facts geo image (formed-sound geo image (check-accepted geo image checked .1)) in
     (map-at geo image n b i (live-found geo image s n b i (record { block = l; slot-of = h; live = e })), s .once n b c i j l l' h h' e)
 
 pub format-makes-a-fresh-image : FormatMakesAFreshImage
@@ -97,7 +95,7 @@ others-read-as-before geo image n m buffer handed words given x = (
       rw same
       (read-same geo image (run geo image (writing geo image n buffer)) m handed
       (w .ready .shaped .long ∙ sym (rows .0 .long)) (rows .1)
-      (ready-formed geo (run geo image (writing geo image n buffer)) (w .ready) (w .still-blank)) (w .other m x)),
+      (facts-formed geo (run geo image (writing geo image n buffer)) (w .ready .sound) (w .still-blank)) (w .other m x)),
   λ accepted.
       let same = release-steps geo image n words accepted in
       let r = release-released geo image n words accepted in
@@ -105,7 +103,7 @@ others-read-as-before geo image n m buffer handed words given x = (
       rw same
       (read-same geo image (run geo image (releasing geo image n)) m handed
       (r .ready .shaped .long ∙ sym (rows .0 .long)) (rows .1)
-      (ready-formed geo (run geo image (releasing geo image n)) (r .ready) (r .still-blank ∙ release-blank geo image n words accepted)) (r .other m x)),
+      (facts-formed geo (run geo image (releasing geo image n)) (r .ready .sound) (r .still-blank ∙ release-blank geo image n words accepted)) (r .other m x)),
 )
 
 pub unused-words-are-not-programmed : UnusedWordsAreNotProgrammed

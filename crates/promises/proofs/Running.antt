@@ -14,12 +14,16 @@ use Rattle.flash.specs.Writing.{writing}
 use Rattle.flash.proofs.Filling.{Ready}
 use Rattle.flash.proofs.Stores.{run-none}
 use Rattle.flash.proofs.Written.{freeIn, wornIn, Wrote}
+use Rattle.answers.specs.declared.Answer.{Answer}
 use Rattle.answers.specs.declared.Answer.the-variants.{Accepted}
+use Rattle.answers.specs.Answers.{ifAccepted}
 use Rattle.answers.proofs.Acceptance.{if-accepted, if-refused, accepted?}
-use Rattle.shellwaltz.specs.Refusals.{writeAnswer, releaseAnswer}
-use Rattle.shellwaltz.specs.Calls.{writeSteps, releaseSteps}
-use Rattle.promises.specs.Runs.{Call, Check, Report, Read, Write, Release, State, called, ran, OfWords}
-use Rattle.promises.proofs.Accepted.{write-steps, write-wrote, release-steps, release-released}
+use Rattle.calls.specs.Refusals.{writeAnswer, releaseAnswer}
+use Rattle.calls.specs.Calls.{writeStepsAfter, writeSteps, releaseStepsAfter, releaseSteps}
+use Rattle.tabled.specs.Refusals.{writeAnswerWith, releaseAnswerWith}
+use Rattle.tabled.specs.Calls.{writeStepsWith, releaseStepsWith}
+use Rattle.promises.specs.Runs.{Call, Check, Report, Read, Write, Release, Build, ReadWith, WriteWith, ReleaseWith, State, called, ran, OfWords}
+use Rattle.promises.proofs.Accepted.{write-wrote, release-released, write-too, release-too}
 
 -- an image that is well formed, of the right shape and of 32-bit words
 pub record Good (geo : Geometry) (image : Image) : Type 0 where
@@ -84,53 +88,79 @@ module _ (geo : Geometry) where
       go (suc zero) q l = rw q (omega (arith, rw q at (w .free), w .gain q))
       go (suc (suc e)) q l = absurd (omega arith)
 
-  write-step : (s : State) (n : ℕ) (buffer : List ℕ) → Good geo (s .image) → Words32 buffer → Step-of s (called geo s (Write n buffer))
-  unfolding called writeSteps erasuresIn
-  write-step s n buffer good handed = go (accepted? (writeAnswer geo (s .image) n buffer))
-    where
-      go : Dec (writeAnswer geo (s .image) n buffer ≡ Accepted) → Step-of s (called geo s (Write n buffer))
-      go (yes a) =
-          let same = write-steps geo (s .image) n buffer (good .ready .words) handed a in
-          let r = write-wrote geo (s .image) n buffer (good .ready .words) handed a in
-          record {
-            good = rw same (record { ready = r .ready; spare = r .still-blank });
-            w = 1;
-            e = erasuresIn (writing geo (s .image) n buffer);
-            writes = ap (s .writes +_) (if-accepted 1 0 a);
-            erasures = ap (λ (ss : List Step). s .erasures + erasuresIn ss) same;
-            worn = rw same (r .worn);
-            paid = rw same (record { balance = write-balance r; one = omega arith; erases = r .erases; low = r .low });
-          }
-      go (no a) =
-          let none = if-refused (writeAnswer geo (s .image) n buffer) (writing geo (s .image) n buffer) [] a in
-          idle s (called geo s (Write n buffer)) good
-          (ap (run geo (s .image)) none ∙ run-none geo (s .image))
-          (ap (s .writes +_) (if-refused (writeAnswer geo (s .image) n buffer) 1 0 a) ∙ omega arith)
-          (ap (λ (ss : List Step). s .erasures + erasuresIn ss) none ∙ omega arith)
+  -- a write of n that is answered so; one is accepted only where the call without a table is
+  module _ (s : State) (n : ℕ) (buffer : List ℕ) (answer : Answer) (too : answer ≡ Accepted → writeAnswer geo (s .image) n buffer ≡ Accepted) where
+    abbrev write-steps-of : List Step
+    write-steps-of = writeStepsAfter geo (s .image) answer n buffer
 
-  release-step : (s : State) (n : ℕ) → Good geo (s .image) → Step-of s (called geo s (Release n))
-  unfolding called releaseSteps erasuresIn
-  release-step s n good = go (accepted? (releaseAnswer geo (s .image) n))
-    where
-      go : Dec (releaseAnswer geo (s .image) n ≡ Accepted) → Step-of s (called geo s (Release n))
-      go (yes a) =
-          let same = release-steps geo (s .image) n (good .ready .words) a in
-          let r = release-released geo (s .image) n (good .ready .words) a in
-          record {
-            good = rw same (record { ready = r .ready; spare = r .still-blank ∙ good .spare });
-            w = 0;
-            e = 0;
-            writes = omega arith;
-            erasures = ap (λ (ss : List Step). s .erasures + erasuresIn ss) same ∙ omega (arith, r .erasures);
-            worn = rw same (r .worn ∙ omega arith);
-            paid = rw same (record { balance = omega (arith, r .free); one = omega arith; erases = omega arith; low = omega arith });
-          }
-      go (no a) =
-          let none = if-refused (releaseAnswer geo (s .image) n) (releasing geo (s .image) n) [] a in
-          idle s (called geo s (Release n)) good
-          (ap (run geo (s .image)) none ∙ run-none geo (s .image))
-          refl
-          (ap (λ (ss : List Step). s .erasures + erasuresIn ss) none ∙ omega arith)
+    abbrev wrote : State
+    wrote =
+        record {
+          image = run geo (s .image) write-steps-of;
+          writes = s .writes + ifAccepted answer 1 0;
+          erasures = s .erasures + erasuresIn write-steps-of;
+        }
+
+    write-step : Good geo (s .image) → Words32 buffer → Step-of s wrote
+    unfolding erasuresIn
+    write-step good handed = go (accepted? answer)
+      where
+        go : Dec (answer ≡ Accepted) → Step-of s wrote
+        go (yes a) =
+            let same = if-accepted (writing geo (s .image) n buffer) [] a in
+            let r = write-wrote geo (s .image) n buffer (good .ready .words) handed (too a) in
+            record {
+              good = rw same (record { ready = r .ready; spare = r .still-blank });
+              w = 1;
+              e = erasuresIn (writing geo (s .image) n buffer);
+              writes = ap (s .writes +_) (if-accepted 1 0 a);
+              erasures = ap (λ (ss : List Step). s .erasures + erasuresIn ss) same;
+              worn = rw same (r .worn);
+              paid = rw same (record { balance = write-balance r; one = omega arith; erases = r .erases; low = r .low });
+            }
+        go (no a) =
+            let none = if-refused answer (writing geo (s .image) n buffer) [] a in
+            idle s wrote good
+            (ap (run geo (s .image)) none ∙ run-none geo (s .image))
+            (ap (s .writes +_) (if-refused answer 1 0 a) ∙ omega arith)
+            (ap (λ (ss : List Step). s .erasures + erasuresIn ss) none ∙ omega arith)
+
+  -- a release likewise
+  module _ (s : State) (n : ℕ) (answer : Answer) (too : answer ≡ Accepted → releaseAnswer geo (s .image) n ≡ Accepted) where
+    abbrev release-steps-of : List Step
+    release-steps-of = releaseStepsAfter geo (s .image) answer n
+
+    abbrev freed : State
+    freed =
+        record {
+          image = run geo (s .image) release-steps-of;
+          writes = s .writes;
+          erasures = s .erasures + erasuresIn release-steps-of;
+        }
+
+    release-step : Good geo (s .image) → Step-of s freed
+    unfolding erasuresIn
+    release-step good = go (accepted? answer)
+      where
+        go : Dec (answer ≡ Accepted) → Step-of s freed
+        go (yes a) =
+            let same = if-accepted (releasing geo (s .image) n) [] a in
+            let r = release-released geo (s .image) n (good .ready .words) (too a) in
+            record {
+              good = rw same (record { ready = r .ready; spare = r .still-blank ∙ good .spare });
+              w = 0;
+              e = 0;
+              writes = omega arith;
+              erasures = ap (λ (ss : List Step). s .erasures + erasuresIn ss) same ∙ omega (arith, r .erasures);
+              worn = rw same (r .worn ∙ omega arith);
+              paid = rw same (record { balance = omega (arith, r .free); one = omega arith; erases = omega arith; low = omega arith });
+            }
+        go (no a) =
+            let none = if-refused answer (releasing geo (s .image) n) [] a in
+            idle s freed good
+            (ap (run geo (s .image)) none ∙ run-none geo (s .image))
+            refl
+            (ap (λ (ss : List Step). s .erasures + erasuresIn ss) none ∙ omega arith)
 
   -- how a run from s to t stands: k + 1 erasures, the wear, and that nothing is taken back
   pub record Ran (s t : State) : Type 0 where
@@ -158,15 +188,25 @@ module _ (geo : Geometry) where
       Good geo (s .image) →
       OfWords calls →
       Ran s (ran geo s calls)
-  unfolding ran called
+  unfolding ran called writeSteps releaseSteps writeStepsWith releaseStepsWith
   runs [] s good handed =
       record { bound = λ k e. absurd (omega arith); worn = refl; more-erasures = omega arith; more-writes = omega arith }
   runs (Check ∷ cs) s good handed = runs cs s good handed
   runs (Report ∷ cs) s good handed = runs cs s good handed
   runs (Read n buffer ∷ cs) s good handed = runs cs s good handed
   runs (Write n buffer ∷ cs) s good handed =
-      let st = write-step s n buffer good (handed .0) in
+      let st = write-step s n buffer (writeAnswer geo (s .image) n buffer) (λ a. a) good (handed .0) in
       joined s (called geo s (Write n buffer)) (ran geo (called geo s (Write n buffer)) cs) st (runs cs (called geo s (Write n buffer)) (st .good) (handed .1))
   runs (Release n ∷ cs) s good handed =
-      let st = release-step s n good in
+      let st = release-step s n (releaseAnswer geo (s .image) n) (λ a. a) good in
       joined s (called geo s (Release n)) (ran geo (called geo s (Release n)) cs) st (runs cs (called geo s (Release n)) (st .good) handed)
+  runs (Build table ∷ cs) s good handed = runs cs s good handed
+  runs (ReadWith n buffer table ∷ cs) s good handed = runs cs s good handed
+  runs (WriteWith n buffer table ∷ cs) s good handed =
+      let call : Call = WriteWith n buffer table in
+      let st = write-step s n buffer (writeAnswerWith geo (s .image) n buffer table) (write-too geo (s .image) n buffer table) good (handed .0) in
+      joined s (called geo s call) (ran geo (called geo s call) cs) st (runs cs (called geo s call) (st .good) (handed .1))
+  runs (ReleaseWith n table ∷ cs) s good handed =
+      let call : Call = ReleaseWith n table in
+      let st = release-step s n (releaseAnswerWith geo (s .image) n table) (release-too geo (s .image) n table) good in
+      joined s (called geo s call) (ran geo (called geo s call) cs) st (runs cs (called geo s call) (st .good) handed)

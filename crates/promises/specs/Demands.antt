@@ -23,11 +23,11 @@ use Rattle.flash.specs.Writing.{mustReclaim, writing}
 use Rattle.answers.specs.declared.Answer.{Answer}
 use Rattle.answers.specs.declared.Answer.the-variants.{Accepted, Unmapped}
 use Rattle.answers.specs.Answers.{numberOf, blockOf, ruleOf}
-use Rattle.shellwaltz.specs.Refusals.{Row, formatRows, checkRows, readRows, writeRows, releaseRows, formatAnswer, checkAnswer, readAnswer, writeAnswer, releaseAnswer}
-use Rattle.shellwaltz.specs.Calls.{formatted, noTotals, reported, readBuffer, writeSteps, writeOutcome, written, releaseOutcome, released, outcome}
+use Rattle.calls.specs.Refusals.{Row, formatRows, checkRows, readRows, writeRows, releaseRows, formatAnswer, checkAnswer, readAnswer, writeAnswer, releaseAnswer}
+use Rattle.calls.specs.Calls.{formatted, noTotals, reported, readBuffer, writeSteps, writeOutcome, written, releaseOutcome, released, outcome}
 use Rattle.promises.specs.Runs.{Call, OfWords, State, ran, started}
 
--- ---- Demand 1. Whatever is handed in, nothing traps: no public function of src/lib.rt has a `requires`, and a proved function does
+-- ---- Demand 1. Whatever is handed in, nothing traps: no public function of the crates `shellwaltz` and `tabled` has a `requires`, and a proved function does
 -- nothing undefined and returns.
 
 -- the row numbered k is the first of these that applies

@@ -18,8 +18,8 @@ use Rattle.image.specs.WellFormed.{wellFormed}
 use Rattle.flash.specs.Steps.{run, wordsIn, programsWord}
 use Rattle.flash.specs.Placing.{fillsSlot, placing}
 use Rattle.answers.specs.declared.Answer.the-variants.{Accepted}
-use Rattle.shellwaltz.specs.Refusals.{formatAnswer, checkAnswer, readAnswer, writeAnswer, releaseAnswer}
-use Rattle.shellwaltz.specs.Calls.{formatted, reported, readBuffer, writeSteps, releaseSteps, writeOutcome, written, releaseOutcome, released}
+use Rattle.calls.specs.Refusals.{formatAnswer, checkAnswer, readAnswer, writeAnswer, releaseAnswer}
+use Rattle.calls.specs.Calls.{formatted, reported, readBuffer, writeSteps, releaseSteps, writeOutcome, written, releaseOutcome, released}
 
 -- The map is well defined: on a well-formed image at most one slot is live for a number, and the map gives its contents.
 abbrev pub TheOneSlot : Type 0

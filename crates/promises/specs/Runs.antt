@@ -3,17 +3,24 @@ use mathlib.Core.List.{List, [], _∷_}
 use Prim.Native.Nat.{ℕ, _+_}
 use Rattle.geometry.specs.declared.Geometry.{Geometry}
 use Rattle.image.specs.Words.{Image, Words32}
-use Rattle.shellwaltz.specs.Refusals.{writeAnswer}
+use Rattle.tables.specs.Tables.{Table}
+use Rattle.calls.specs.Refusals.{writeAnswer}
 use Rattle.answers.specs.Answers.{ifAccepted}
-use Rattle.shellwaltz.specs.Calls.{writeOutcome, written, releaseOutcome, released}
+use Rattle.calls.specs.Calls.{writeOutcome, written, releaseOutcome, released}
+use Rattle.tabled.specs.Refusals.{writeAnswerWith}
+use Rattle.tabled.specs.Calls.{writeOutcomeWith, writtenWith, releaseOutcomeWith, releasedWith}
 
--- a call, with the number and the buffer that it is handed
+-- a call, with the number, the buffer and the lookup table (K2) that it is handed: any table, and another one at each call
 pub data Call : Type 0 where
   Check : Call
   Report : Call
   Read : ℕ → List ℕ → Call
   Write : ℕ → List ℕ → Call
   Release : ℕ → Call
+  Build : Table → Call
+  ReadWith : ℕ → List ℕ → Table → Call
+  WriteWith : ℕ → List ℕ → Table → Call
+  ReleaseWith : ℕ → Table → Call
 
 -- how a run stands: the image, the accepted writes so far, the erasures so far
 pub record State : Type 0 where
@@ -22,7 +29,7 @@ pub record State : Type 0 where
   pub erasures : ℕ
 
 module _ (geo : Geometry) where
-  -- what one call leaves: check, report and read change nothing
+  -- what one call leaves: check, report, read and the building of a table change nothing
   unfoldable pub called : State → Call → State
   called s Check = s
   called s Report = s
@@ -38,6 +45,20 @@ module _ (geo : Geometry) where
         image = released geo (s .image) n;
         writes = s .writes;
         erasures = s .erasures + releaseOutcome geo (s .image) n .erasures;
+      }
+  called s (Build table) = s
+  called s (ReadWith n buffer table) = s
+  called s (WriteWith n buffer table) =
+      record {
+        image = writtenWith geo (s .image) n buffer table;
+        writes = s .writes + ifAccepted (writeAnswerWith geo (s .image) n buffer table) 1 0;
+        erasures = s .erasures + writeOutcomeWith geo (s .image) n buffer table .erasures;
+      }
+  called s (ReleaseWith n table) =
+      record {
+        image = releasedWith geo (s .image) n table;
+        writes = s .writes;
+        erasures = s .erasures + releaseOutcomeWith geo (s .image) n table .erasures;
       }
 
   -- the run
@@ -57,3 +78,7 @@ OfWords (Report ∷ cs) = OfWords cs
 OfWords (Read n buffer ∷ cs) = OfWords cs
 OfWords (Write n buffer ∷ cs) = Words32 buffer × OfWords cs
 OfWords (Release n ∷ cs) = OfWords cs
+OfWords (Build table ∷ cs) = OfWords cs
+OfWords (ReadWith n buffer table ∷ cs) = OfWords cs
+OfWords (WriteWith n buffer table ∷ cs) = Words32 buffer × OfWords cs
+OfWords (ReleaseWith n table ∷ cs) = OfWords cs

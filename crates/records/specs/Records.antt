@@ -8,9 +8,9 @@ use Rattle.geometry.specs.declared.Geometry.{Geometry}
 use Rattle.geometry.specs.Geometry.{shape, filled}
 use Rattle.image.specs.Words.{Image}
 use Rattle.answers.specs.Answers.{numberOf}
-use Rattle.shellwaltz.specs.Refusals.{readAnswer}
-use Rattle.shellwaltz.specs.Calls.{readBuffer, writeOutcome, written, releaseOutcome, released}
-use Rattle.shellwaltz.specs.declared.Outcome.{Outcome}
+use Rattle.calls.specs.Refusals.{readAnswer}
+use Rattle.calls.specs.Calls.{readBuffer, writeOutcome, written, releaseOutcome, released}
+use Rattle.calls.specs.declared.Outcome.{Outcome}
 use Rattle.records.specs.declared.Line.{Line}
 use Rattle.records.specs.declared.Record.{Record}
 

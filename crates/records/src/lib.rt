@@ -2,10 +2,10 @@
 ghost use mathlib.Core.Path.{_≡_};
 ghost use Prim.Native.Nat.{_+_, _≤_};
 ghost use Rattle.geometry.specs.Geometry.{filled};
-ghost use Rattle.shellwaltz.specs.Calls.{written, released};
+ghost use Rattle.calls.specs.Calls.{written, released};
 ghost use Rattle.records.specs.Records.{scriptGeometry, littleEndian, numberAt, recordOf, outcomeLine, writeLine, readLine, releaseLine, otherLine, lineOf, imageAfter};
+use calls::Outcome;
 use geometry::Geometry;
-use shellwaltz::Outcome;
 
 // The three numbers of a record.
 pub struct Record {

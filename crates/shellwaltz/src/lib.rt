@@ -1,46 +1,16 @@
 // The calls: each tests its rows of the table of refusals (docs/FORMAT.md, Refusals), in the table's order, and then does its work.
 // Any geometry, image, number or buffer may be handed in; a refused call changes no word. One that refuses with 4 passes on the first block
-// and rule that fail.
-ghost use mathlib.Core.Bool.{_&&_, true};
-ghost use mathlib.Core.List.{[]};
+// and rule that fail. A read, a write and a release are those of the crate `calls`, with a lookup table of no words.
+ghost use mathlib.Core.Bool.{true};
 ghost use mathlib.Core.Path.{_≡_};
-ghost use lib.Dec.{eqb};
-ghost use lib.ListN.{length};
-ghost use Rattle.geometry.specs.Geometry.{imageLength, withinLimits};
 ghost use Rattle.image.specs.Words.{Shaped};
 ghost use Rattle.image.specs.WellFormed.{wellFormed};
-ghost use Rattle.shellwaltz.specs.Refusals.{checkAnswer, readAnswer};
-ghost use Rattle.shellwaltz.specs.Calls.{countsZeroed, formatOutcome, formatted, totalsOf, reported, readBuffer, outcome, writeOutcome, written, releaseOutcome, released};
+ghost use Rattle.calls.specs.Refusals.{checkAnswer, readAnswer};
+ghost use Rattle.calls.specs.Calls.{countsZeroed, formatOutcome, formatted, totalsOf, reported, readBuffer, writeOutcome, written, releaseOutcome, released};
 use answers::Answer;
-use flash::Plan;
+use calls::Outcome;
+use calls::Totals;
 use geometry::Geometry;
-use image::Found;
-
-// What format, write and release report: the words programmed and the blocks erased.
-pub struct Outcome {
-    pub answer: Answer,
-    pub words: u32,
-    pub erasures: u32,
-}
-
-// What report reports: mapped, free and dead slots, and the sum of the erase counts.
-pub struct Totals {
-    pub answer: Answer,
-    pub mapped: u32,
-    pub free: u32,
-    pub dead: u32,
-    pub erase_sum: u32,
-}
-
-// Row 1 of the refusals, turned round: the geometry is within its limits and the image has its length.
-fn fits(image: &[u32], geo: Geometry) -> bool
-    ensures { λ r. ⌜ r ≡ (withinLimits geo && eqb (length (now (image .entry))) (imageLength geo)) ⌝ }
-{
-    if !geo.within_limits() {
-        return false;
-    }
-    image::slots::words_in(image) == geo.length()
-}
 
 // Sets word 0 of every block to 0.
 fn zero_counts(image: &mut [u32], geo: Geometry)
@@ -59,7 +29,7 @@ pub fn format(image: &mut [u32], geo: Geometry) -> Outcome
     ensures { λ r. ⌜ r ≡ formatOutcome geo (now (image .entry)) ⌝ }
     ensures { λ r. ⌜ now (image .exit) ≡ formatted geo (now (image .entry)) ⌝ }
 {
-    if !fits(image, geo) {
+    if !image::slots::fits(image, geo) {
         return Outcome {
             answer: Answer::BadGeometry,
             words: 0,
@@ -79,7 +49,7 @@ pub fn format(image: &mut [u32], geo: Geometry) -> Outcome
 pub fn check(image: &[u32], geo: Geometry) -> Answer
     ensures { λ r. ⌜ r ≡ checkAnswer geo (now (image .entry)) ⌝ }
 {
-    if !fits(image, geo) {
+    if !image::slots::fits(image, geo) {
         return Answer::BadGeometry;
     }
     let fault = checking::first_fault(image, geo);
@@ -120,7 +90,7 @@ fn add_up(image: &[u32], geo: Geometry) -> Totals
 pub fn report(image: &[u32], geo: Geometry) -> Totals
     ensures { λ r. ⌜ r ≡ reported geo (now (image .entry)) ⌝ }
 {
-    if !fits(image, geo) {
+    if !image::slots::fits(image, geo) {
         return Totals {
             answer: Answer::BadGeometry,
             mapped: 0,
@@ -147,37 +117,8 @@ pub fn read(image: &[u32], geo: Geometry, n: u32, buffer: &mut [u32]) -> Answer
     ensures { λ r. ⌜ r ≡ readAnswer geo (now (image .entry)) n (now (buffer .entry)) ⌝ }
     ensures { λ r. ⌜ now (buffer .exit) ≡ readBuffer geo (now (image .entry)) n (now (buffer .entry)) ⌝ }
 {
-    if !fits(image, geo) {
-        return Answer::BadGeometry;
-    }
-    if buffer.len() != 128 {
-        return Answer::BadBuffer;
-    }
-    if geo.logical <= n {
-        return Answer::BadNumber;
-    }
-    let fault = checking::first_fault(image, geo);
-    if fault.rule != 0 {
-        return Answer::Malformed(fault.block, fault.rule);
-    }
-    match image::slots::find(image, geo, n) {
-        Found::At(b, i) => {
-            image::slots::copy_contents(image, geo, b, i, buffer);
-            Answer::Accepted
-        }
-        Found::Nothing => Answer::Unmapped,
-    }
-}
-
-// What a refused write or release reports.
-fn refused(answer: Answer) -> Outcome
-    ensures { λ r. ⌜ r ≡ outcome answer [] ⌝ }
-{
-    Outcome {
-        answer,
-        words: 0,
-        erasures: 0,
-    }
+    let none = [0u16; 0];
+    calls::read_by(image, geo, n, buffer, &none)
 }
 
 // Writes the 128 words of the buffer as sector n. Refuses 1, 2, 3, 4 and 6.
@@ -185,38 +126,8 @@ pub fn write(image: &mut [u32], geo: Geometry, n: u32, buffer: &[u32]) -> Outcom
     ensures { λ r. ⌜ r ≡ writeOutcome geo (now (image .entry)) n (now (buffer .entry)) ⌝ }
     ensures { λ r. ⌜ now (image .exit) ≡ written geo (now (image .entry)) n (now (buffer .entry)) ⌝ }
 {
-    if !fits(image, geo) {
-        return refused(Answer::BadGeometry);
-    }
-    if 128 != buffer.len() {
-        return refused(Answer::BadBuffer);
-    }
-    if n >= geo.logical {
-        return refused(Answer::BadNumber);
-    }
-    let fault = checking::first_fault(image, geo);
-    if fault.rule != 0 {
-        return refused(Answer::Malformed(fault.block, fault.rule));
-    }
-    match writing::filling::plan(image, geo) {
-        Plan::Worn => refused(Answer::WornOut),
-        Plan::Fill => {
-            let words = writing::filling::fill(image, geo, n, buffer);
-            Outcome {
-                answer: Answer::Accepted,
-                words,
-                erasures: 0,
-            }
-        }
-        Plan::Reclaim(v) => {
-            let words = writing::filling::reclaim_and_fill(image, geo, v, n, buffer);
-            Outcome {
-                answer: Answer::Accepted,
-                words,
-                erasures: 1,
-            }
-        }
-    }
+    let mut none = [0u16; 0];
+    calls::write_by(image, geo, n, buffer, &mut none)
 }
 
 // Releases sector n: its number is not mapped any more. Refuses 1, 3, 4 and 5.
@@ -224,23 +135,6 @@ pub fn release(image: &mut [u32], geo: Geometry, n: u32) -> Outcome
     ensures { λ r. ⌜ r ≡ releaseOutcome geo (now (image .entry)) n ⌝ }
     ensures { λ r. ⌜ now (image .exit) ≡ released geo (now (image .entry)) n ⌝ }
 {
-    if !fits(image, geo) {
-        return refused(Answer::BadGeometry);
-    }
-    if n >= geo.logical {
-        return refused(Answer::BadNumber);
-    }
-    let fault = checking::first_fault(image, geo);
-    if fault.rule != 0 {
-        return refused(Answer::Malformed(fault.block, fault.rule));
-    }
-    let words = placing::release(image, geo, n);
-    if words == 0 {
-        return refused(Answer::Unmapped);
-    }
-    Outcome {
-        answer: Answer::Accepted,
-        words,
-        erasures: 0,
-    }
+    let mut none = [0u16; 0];
+    calls::release_by(image, geo, n, &mut none)
 }

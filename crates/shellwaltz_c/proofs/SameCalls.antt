@@ -10,14 +10,17 @@ use Rattle.geometry.specs.declared.Geometry.{Geometry}
 use Rattle.geometry.specs.Geometry.{shape, withinLimits, Limits}
 use Rattle.geometry.proofs.Laws.{limits-hold}
 use Rattle.image.specs.Words.{Image}
+use Rattle.tables.specs.Tables.{Table}
 use Rattle.flash.specs.Steps.{wordsIn, erasuresIn}
 use Rattle.flash.proofs.Stores.{run-none}
 use Rattle.answers.specs.declared.Answer.{Answer}
 use Rattle.answers.specs.declared.Answer.the-variants.{BadGeometry}
 use Rattle.answers.specs.Answers.{numberOf, blockOf, ruleOf}
-use Rattle.shellwaltz.specs.declared.Outcome.{Outcome}
-use Rattle.shellwaltz.specs.Refusals.{formatAnswer, checkAnswer, readAnswer, writeAnswer, releaseAnswer}
-use Rattle.shellwaltz.specs.Calls.{formatOutcome, formatted, noTotals, reported, readBuffer, outcome, writeSteps, writeOutcome, written, releaseSteps, releaseOutcome, released}
+use Rattle.calls.specs.declared.Outcome.{Outcome}
+use Rattle.calls.specs.Refusals.{formatAnswer, checkAnswer, readAnswer, writeAnswer, releaseAnswer}
+use Rattle.calls.specs.Calls.{formatOutcome, formatted, noTotals, reported, readBuffer, outcome, writeSteps, writeOutcome, written, releaseSteps, releaseOutcome, released}
+use Rattle.tabled.specs.Refusals.{buildAnswer, readAnswerWith, writeAnswerWith, releaseAnswerWith}
+use Rattle.tabled.specs.Calls.{tableBuilt, readBufferWith, writeStepsWith, writeOutcomeWith, writtenWith, writeTable, releaseStepsWith, releaseOutcomeWith, releasedWith, releaseTable}
 use Rattle.shellwaltz_c.specs.Plain.{narrowed}
 
 -- where one limit is broken, the test of all fails
@@ -95,6 +98,55 @@ module _ {geo : Geometry} (b s l : ℕ) (e : geo ≡ shape (narrowed b) (narrowe
     narrowing (λ x. released x image n) image (λ x out. rw out (run-none x image)) b s l e,
   )
 
+-- ---- the same with a lookup table (K2)
+module _ {geo : Geometry} (b s l : ℕ) (e : geo ≡ shape (narrowed b) (narrowed s) l) (image : Image) where
+  pub build-same :
+      (table : Table) →
+      (buildAnswer geo image table ≡ buildAnswer (shape b s l) image table) × (tableBuilt geo image table ≡ tableBuilt (shape b s l) image table)
+  unfolding buildAnswer tableBuilt
+  build-same table = (
+    narrowing (λ x. buildAnswer x image table) BadGeometry (λ x out. rw out) b s l e,
+    narrowing (λ x. tableBuilt x image table) table (λ x out. rw out) b s l e,
+  )
+
+  pub read-with-same :
+      (n : ℕ) (buffer : List ℕ) (table : Table) →
+      (readAnswerWith geo image n buffer table ≡ readAnswerWith (shape b s l) image n buffer table)
+      × (readBufferWith geo image n buffer table ≡ readBufferWith (shape b s l) image n buffer table)
+  unfolding readAnswerWith readBufferWith
+  read-with-same n buffer table = (
+    narrowing (λ x. readAnswerWith x image n buffer table) BadGeometry (λ x out. rw out) b s l e,
+    narrowing (λ x. readBufferWith x image n buffer table) buffer (λ x out. rw out) b s l e,
+  )
+
+  pub write-with-same :
+      (n : ℕ) (buffer : List ℕ) (table : Table) →
+      (writeOutcomeWith geo image n buffer table ≡ writeOutcomeWith (shape b s l) image n buffer table)
+      × ((writtenWith geo image n buffer table ≡ writtenWith (shape b s l) image n buffer table)
+      × (writeTable geo image n buffer table ≡ writeTable (shape b s l) image n buffer table))
+  unfolding writeAnswerWith writeStepsWith writeTable
+  write-with-same n buffer table = (
+    narrowing (λ x. writeOutcomeWith x image n buffer table) (outcome BadGeometry []) (λ x out. rw out) b s l e,
+    (
+      narrowing (λ x. writtenWith x image n buffer table) image (λ x out. rw out (run-none x image)) b s l e,
+      narrowing (λ x. writeTable x image n buffer table) table (λ x out. rw out) b s l e,
+    ),
+  )
+
+  pub release-with-same :
+      (n : ℕ) (table : Table) →
+      (releaseOutcomeWith geo image n table ≡ releaseOutcomeWith (shape b s l) image n table)
+      × ((releasedWith geo image n table ≡ releasedWith (shape b s l) image n table)
+      × (releaseTable geo image n table ≡ releaseTable (shape b s l) image n table))
+  unfolding releaseAnswerWith releaseStepsWith releaseTable
+  release-with-same n table = (
+    narrowing (λ x. releaseOutcomeWith x image n table) (outcome BadGeometry []) (λ x out. rw out) b s l e,
+    (
+      narrowing (λ x. releasedWith x image n table) image (λ x out. rw out (run-none x image)) b s l e,
+      narrowing (λ x. releaseTable x image n table) table (λ x out. rw out) b s l e,
+    ),
+  )
+
 -- what a call gave, and what it gives for the numbers handed in: the answer by its number, the image, and the two counts
 pub parts :
     {number : ℕ} {gave passed says : Outcome} {left passes leaves : Image} →
@@ -126,3 +178,20 @@ pub parts-and-pair :
 parts-and-pair is-number is-block is-rule gives same =
     let (number, (left, (words, erasures))) = parts is-number gives same in
     (number, (left, (words, (erasures, names is-block is-rule (ap (λ o. o .answer) (gives .0 ∙ same .0))))))
+
+-- the same where a table was lent
+pub parts-and-table :
+    {number block rule : ℕ} {gave passed says : Outcome} {left passes leaves : Image} {noted told tells : Table} →
+    number ≡ numberOf (gave .answer) →
+    block ≡ blockOf (gave .answer) →
+    rule ≡ ruleOf (gave .answer) →
+    (gave ≡ passed) × ((left ≡ passes) × (noted ≡ told)) →
+    (passed ≡ says) × ((passes ≡ leaves) × (told ≡ tells)) →
+    (number ≡ numberOf (says .answer))
+    × ((left ≡ leaves)
+    × ((noted ≡ tells)
+    × ((gave .words ≡ says .words)
+    × ((gave .erasures ≡ says .erasures) × ((block ≡ blockOf (says .answer)) × (rule ≡ ruleOf (says .answer)))))))
+parts-and-table is-number is-block is-rule (gives, (leaves-it, notes-it)) (same, (same-image, same-table)) =
+    let (number, (left, rest)) = parts-and-pair is-number is-block is-rule (gives, leaves-it) (same, same-image) in
+    (number, (left, (notes-it ∙ same-table, rest)))

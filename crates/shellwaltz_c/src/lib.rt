@@ -4,10 +4,12 @@
 ghost use mathlib.Core.Path.{_≡_};
 ghost use Rattle.geometry.specs.Geometry.{shape};
 ghost use Rattle.answers.specs.Answers.{numberOf, blockOf, ruleOf};
-ghost use Rattle.shellwaltz.specs.Refusals.{checkAnswer, readAnswer};
-ghost use Rattle.shellwaltz.specs.Calls.{formatted, formatOutcome, reported, readBuffer, writeOutcome, written, releaseOutcome, released};
+ghost use Rattle.calls.specs.Refusals.{checkAnswer, readAnswer};
+ghost use Rattle.calls.specs.Calls.{formatted, formatOutcome, reported, readBuffer, writeOutcome, written, releaseOutcome, released};
 ghost use Rattle.shellwaltz_c.specs.Plain.{narrowed};
 use geometry::Geometry;
+
+pub mod with_table;
 
 // A number of blocks or sectors in 16 bits: one that does not fit becomes the greatest that does, which breaks its limit as well.
 fn narrow(x: u32) -> u16

@@ -5,9 +5,10 @@ ghost use lib.ListN.{length};
 ghost use Rattle.geometry.specs.Geometry.{sectorWords};
 ghost use Rattle.image.specs.Words.{Shaped};
 ghost use Rattle.image.specs.Blocks.{victim};
-ghost use Rattle.image.specs.WellFormed.{MapsAgree, R6, wellFormed};
+ghost use Rattle.image.specs.WellFormed.{MapsAgree, wellFormed};
 ghost use Rattle.flash.specs.Steps.{run, wordsIn};
 ghost use Rattle.flash.specs.Writing.{mustReclaim, filling, reclaimingFirst, planned};
+ghost use Rattle.flash.specs.Tables.{tableFilled, tableReclaimedFirst};
 use super::reclaiming::reclaim;
 use blocks::count_blank;
 use blocks::erase_count;
@@ -51,14 +52,14 @@ pub fn plan(image: &[u32], geo: Geometry) -> Plan
 
 // Rules 1 and 2: places n in the first free slot of the first open block or, if none is open, in slot 0 of the least worn blank block.
 // Returns how many words were programmed.
-pub fn fill(image: &mut [u32], geo: Geometry, n: u32, words: &[u32]) -> u32
+pub fn fill(image: &mut [u32], geo: Geometry, n: u32, words: &[u32], table: &mut [u16]) -> u32
     requires { ⌜ Shaped geo (now image) ⌝ }
-    requires { ⌜ MapsAgree geo (now image) ⌝ }
-    requires { ⌜ R6 geo (now image) ≡ true ⌝ }
+    requires { ⌜ wellFormed geo (now image) ≡ true ⌝ }
     requires { ⌜ n < geo .logical ⌝ }
     requires { ⌜ length (now words) ≡ sectorWords ⌝ }
     ensures { λ r. ⌜ r ≡ wordsIn (filling geo (now (image .entry)) n (now (words .entry))) ⌝ }
     ensures { λ r. ⌜ now (image .exit) ≡ run geo (now (image .entry)) (filling geo (now (image .entry)) n (now (words .entry))) ⌝ }
+    ensures { λ r. ⌜ now (table .exit) ≡ tableFilled geo (now (image .entry)) n (now (table .entry)) ⌝ }
 {
     let blocks = geo.blocks as usize;
     let mut b = lowest_open(image, geo);
@@ -68,11 +69,18 @@ pub fn fill(image: &mut [u32], geo: Geometry, n: u32, words: &[u32]) -> u32
     } else {
         b = least_worn_blank(image, geo);
     }
-    place(image, geo, n, words, b, i)
+    place(image, geo, n, words, b, i, table)
 }
 
 // Rule 3 with the victim v, then rule 1 or 2. Returns how many words were programmed; one block was erased.
-pub fn reclaim_and_fill(image: &mut [u32], geo: Geometry, v: usize, n: u32, words: &[u32]) -> u32
+pub fn reclaim_and_fill(
+    image: &mut [u32],
+    geo: Geometry,
+    v: usize,
+    n: u32,
+    words: &[u32],
+    table: &mut [u16],
+) -> u32
     requires { ⌜ Shaped geo (now image) ⌝ }
     requires { ⌜ wellFormed geo (now image) ≡ true ⌝ }
     requires { ⌜ planned geo (now image) ≡ Plan.Reclaim v ⌝ }
@@ -80,8 +88,9 @@ pub fn reclaim_and_fill(image: &mut [u32], geo: Geometry, v: usize, n: u32, word
     requires { ⌜ length (now words) ≡ sectorWords ⌝ }
     ensures { λ r. ⌜ r ≡ wordsIn (reclaimingFirst geo (now (image .entry)) v n (now (words .entry))) ⌝ }
     ensures { λ r. ⌜ now (image .exit) ≡ run geo (now (image .entry)) (reclaimingFirst geo (now (image .entry)) v n (now (words .entry))) ⌝ }
+    ensures { λ r. ⌜ now (table .exit) ≡ tableReclaimedFirst geo (now (image .entry)) v n (now (table .entry)) ⌝ }
 {
     let blank = least_worn_blank(image, geo);
-    let first = reclaim(image, geo, v, blank);
-    first + fill(image, geo, n, words)
+    let first = reclaim(image, geo, v, blank, table);
+    first + fill(image, geo, n, words, table)
 }

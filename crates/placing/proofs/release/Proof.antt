@@ -5,11 +5,11 @@ use Rattle.flash.proofs.CodeLaws.{found-inside}
 use Rattle.placing.proofs.release.Statement.{statement}
 use Rattle.placing.proofs.release.Tie as tie
 
-find-requires : tie.Need-find-requires
-find-requires c κs = search needs
+look-up-requires : tie.Need-look-up-requires
+look-up-requires c κs = search needs
 
 entry-at-requires : tie.Need-entry-at-requires
-entry-at-requires c κs = (c .before .before .before .before .pre .0, found-inside _ _ _ (c .before .find .ensures))
+entry-at-requires c κs = (c .before .before .before .before .before .pre .0, found-inside _ _ _ (c .before .look-up .ensures))
 
 clear-bit-requires : tie.Need-clear-bit-requires
 clear-bit-requires c κs = search needs
@@ -17,7 +17,7 @@ clear-bit-requires c κs = search needs
 program-entry-requires : tie.Need-program-entry-requires
 program-entry-requires c κs =
     let found = c .before .before .before .before in
-    (found .before .before .before .pre .0, found-inside _ _ _ (found .find .ensures))
+    (found .before .before .before .before .pre .0, found-inside _ _ _ (found .look-up .ensures))
 
 same-length : tie.Need-same-length
 same-length c = search needs
@@ -26,14 +26,14 @@ returns : tie.Need-returns
 unfolding releasing
 returns c =
     let invalid = c .before .before .before .before in
-    rw (← invalid .before .before .before .find .ensures, ← invalid .before .entry-at .ensures)
+    rw (← invalid .before .before .before .look-up .ensures, ← invalid .before .entry-at .ensures)
     (rw (invalid .clear-bit .ensures) at (c .before .before .program-entry .ensures))
 
 pub release-spec : {M : Type 1} → statement M
 release-spec =
     tie.close
     (tie.spec
-    find-requires
+    look-up-requires
     entry-at-requires
     clear-bit-requires
     program-entry-requires

@@ -1,7 +1,7 @@
 -- `shellwaltz::check` meets its contract: its tests are rows 1 and 4, asked in that order, and the first that applies is the answer.
 use borrow.Author.Needs.{needs}
-use Rattle.shellwaltz.specs.Refusals.{checkAnswer}
-use Rattle.shellwaltz.proofs.CallLaws.{as-tested, shaped-left, fault-applies, fault-passes, fault-named}
+use Rattle.calls.specs.Refusals.{checkAnswer}
+use Rattle.calls.proofs.CallLaws.{as-tested, shaped-left, fault-applies, fault-passes, fault-named}
 use Rattle.shellwaltz.proofs.check.Statement.{statement}
 use Rattle.shellwaltz.proofs.check.Tie as tie
 

@@ -3,9 +3,9 @@ use mathlib.Core.Path.{refl, ap, _∙_}
 use lib.ListN.{length, length-replicate}
 use borrow.Author.Needs.{needs}
 use Rattle.image.specs.Words.{Shaped}
-use Rattle.shellwaltz.specs.Refusals.{formatAnswer}
-use Rattle.shellwaltz.specs.Calls.{fresh, formatted}
-use Rattle.shellwaltz.proofs.CallLaws.{as-tested, shaped-left}
+use Rattle.calls.specs.Refusals.{formatAnswer}
+use Rattle.calls.specs.Calls.{fresh, formatted}
+use Rattle.calls.proofs.CallLaws.{as-tested, shaped-left}
 use Rattle.shellwaltz.proofs.format.Statement.{statement}
 use Rattle.shellwaltz.proofs.format.Tie as tie
 

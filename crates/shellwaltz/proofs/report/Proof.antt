@@ -2,9 +2,9 @@
 use mathlib.Core.Path.{ap}
 use borrow.Author.Needs.{needs}
 use borrow.Author.Tests.{not-false}
-use Rattle.shellwaltz.specs.Refusals.{checkAnswer}
-use Rattle.shellwaltz.specs.Calls.{noTotals, reported}
-use Rattle.shellwaltz.proofs.CallLaws.{as-tested, shaped-left, fault-applies, fault-passes, fault-named}
+use Rattle.calls.specs.Refusals.{checkAnswer}
+use Rattle.calls.specs.Calls.{noTotals, reported}
+use Rattle.calls.proofs.CallLaws.{as-tested, shaped-left, fault-applies, fault-passes, fault-named}
 use Rattle.shellwaltz.proofs.report.Statement.{statement}
 use Rattle.shellwaltz.proofs.report.Tie as tie
 

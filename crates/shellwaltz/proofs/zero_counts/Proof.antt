@@ -6,7 +6,7 @@ use native.Mathlib.Omega.{arith}
 use lib.ListN.{length, length-set}
 use borrow.Author.Needs.{needs}
 use Rattle.geometry.proofs.Laws.{place-inside}
-use Rattle.shellwaltz.specs.Calls.{countsZeroed}
+use Rattle.calls.specs.Calls.{countsZeroed}
 use Rattle.shellwaltz.proofs.zero_counts.Statement.{statement}
 use Rattle.shellwaltz.proofs.zero_counts.Tie as tie
 

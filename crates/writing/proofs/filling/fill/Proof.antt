@@ -1,44 +1,53 @@
 -- `writing::filling::fill` meets its contract: the block and the slot that it finds are those of rule 1, or of rule 2 where none is open.
-use mathlib.Core.List.{List}
+use mathlib.Core.Bool.{true}
 use mathlib.Core.Logic.{⊎-elim}
 use mathlib.Core.Path.{_≡_, ap, _∙_}
-use Prim.Native.Nat.{ℕ, _<_}
+use Prim.Native.Nat.{_<_}
 use native.Mathlib.Omega.{arith}
 use borrow.Author.Needs.{needs}
+use Rattle.geometry.specs.declared.Geometry.{Geometry}
 use Rattle.geometry.specs.Geometry.{d}
 use Rattle.geometry.proofs.Laws.{d-positive}
+use Rattle.image.specs.declared.Found.the-variants.{At}
+use Rattle.image.specs.Words.{Image}
 use Rattle.image.specs.Blocks.{lowestFree}
-use Rattle.flash.specs.Placing.{placing}
-use Rattle.flash.specs.Writing.{filling}
-use Rattle.flash.proofs.Planned.{open-slot, blank-block, filling-open, filling-blank}
+use Rattle.image.specs.WellFormed.{MapsAgree, wellFormed}
+use Rattle.image.proofs.Facts.{sound-facts, sound-maps, formed-sound, formed-blank}
+use Rattle.flash.specs.Writing.{nextSlot}
+use Rattle.flash.proofs.Planned.{open-slot, blank-block, next-open, next-blank, filling-next, table-next}
 use Rattle.writing.proofs.filling.fill.Statement.{statement}
 use Rattle.writing.proofs.filling.fill.Tie as tie
+
+-- the maps of a well-formed image agree with its entries
+formed-maps : (geo : Geometry) (image : Image) → wellFormed geo image ≡ true → MapsAgree geo image
+formed-maps geo image t = sound-maps geo image (sound-facts geo image (formed-sound geo image t))
 
 cast-blocks : tie.Need-cast-blocks
 cast-blocks c = search needs
 
 lowest-open-requires : tie.Need-lowest-open-requires
-lowest-open-requires c κs = search needs
+lowest-open-requires c κs =
+    let start = c .before .before .before .before .before in
+    (start .pre .0, formed-maps _ _ (start .pre .1 .0))
 
 lowest-free-requires : tie.Need-lowest-free-requires
 lowest-free-requires c κs =
-    let start = c .before .before .before .before .before .before .before in
+    let start = c .before .before .before .before .before .before .before .before in
     let block : c .before .before .lowest-open .result < start .args .geo .blocks = omega (arith, c .before .if1 .taken) in
-    (start .pre .0, (block, start .pre .1 .0 .agrees _ block))
+    (start .pre .0, (block, formed-maps _ _ (start .pre .1 .0) .agrees _ block))
 
 least-worn-blank-requires : tie.Need-least-worn-blank-requires
-least-worn-blank-requires c κs = search needs
+least-worn-blank-requires c κs =
+    let start = c .before .before .before .before .before .before .before .before in
+    (start .pre .0, formed-maps _ _ (start .pre .1 .0))
 
--- the block and the slot, either way: they are in the image, and the steps are those of placing there
+-- the block and the slot, either way: they are in the image, and they are those of the next write
 found : (c : tie.Joined1) →
-    let start = c .before .before .before .before .before .before in
+    let start = c .before .before .before .before .before .before .before in
     let geo = start .args .geo in
-    let image = start .args .image .now in
-    (c .if1 .b < geo .blocks)
-    × (c .if1 .i < d geo)
-    × ((n : ℕ) (ws : List ℕ) → filling geo image n ws ≡ placing geo image n ws (c .if1 .b) (c .if1 .i))
+    (c .if1 .b < geo .blocks) × (c .if1 .i < d geo) × (nextSlot geo (start .args .image .now) ≡ At (c .if1 .b) (c .if1 .i))
 found c =
-    let start = c .before .before .before .before .before .before in
+    let start = c .before .before .before .before .before .before .before in
     let geo = start .args .geo in
     let image = start .args .image .now in
     let opened = c .before .lowest-open in
@@ -47,29 +56,33 @@ found c =
     let block : opened .result < geo .blocks = omega (arith, w .0 .taken) in
     let slot-is = w .2 .ensures ∙ ap (lowestFree geo image) (opened .ensures) in
     let inside = open-slot geo image (omega (arith, opened .ensures)) in
-    rw (w .3, w .4) (block, omega (arith, slot-is, inside), filling-open _ _ (opened .result) (w .2 .result) (opened .ensures) (w .2 .ensures) block))
+    rw (w .3, w .4) (block, omega (arith, slot-is, inside), next-open _ _ (opened .result) (w .2 .result) (opened .ensures) (w .2 .ensures) block))
     (λ w.
-    let block = blank-block geo image (start .pre .1 .1 .0) in
+    let block = blank-block geo image (formed-blank geo image (start .pre .1 .0)) in
     rw (w .3, w .4) (
       omega (arith, w .2 .ensures),
       omega (arith, d-positive geo (start .pre .0 .limits)),
-      filling-blank _ _ (w .2 .result) (w .2 .ensures) (omega (arith, opened .ensures, w .0 .left)),
+      next-blank _ _ (w .2 .result) (w .2 .ensures) (omega (arith, opened .ensures, w .0 .left)),
     ))
     (c .if1 .came)
 
 place-requires : tie.Need-place-requires
 place-requires c κs =
-    let start = c .before .before .before .before .before .before .before in
-    let f = found (c .before) in
-    (start .pre .0, (start .pre .1 .1 .1 .0, (start .pre .1 .1 .1 .1, (f .0, omega (arith, f .1)))))
+    let start = c .before .before .before .before .before .before .before .before .before in
+    let f = found (c .before .before) in
+    (start .pre .0, (formed-sound _ _ (start .pre .1 .0), (start .pre .1 .1 .0, (start .pre .1 .1 .1, (f .0, omega (arith, f .1))))))
 
 same-length : tie.Need-same-length
 same-length c = search needs
 
+same-length-2 : tie.Need-same-length-2
+same-length-2 c = search needs
+
 returns : tie.Need-returns
 returns c =
-    let placed = c .before .before in
-    rw (found (placed .before .before) .2 _ _) (placed .place .ensures)
+    let placed = c .before .before .before .before in
+    let next = found (placed .before .before .before) .2 in
+    rw (filling-next _ _ next _ _, table-next _ _ next _ _) (placed .place .ensures)
 
 pub fill-spec : {M : Type 1} → statement M
 fill-spec =
@@ -81,4 +94,5 @@ fill-spec =
     least-worn-blank-requires
     place-requires
     same-length
+    same-length-2
     returns)

@@ -4,6 +4,7 @@ use Rattle.geometry.specs.Geometry.{d}
 use Rattle.image.proofs.Reading.{word-inside}
 use Rattle.flash.specs.Steps.{applied, run, wordsIn}
 use Rattle.flash.specs.Writing.{reclaiming}
+use Rattle.flash.specs.Tables.{tableReclaimed}
 use Rattle.flash.proofs.Stores.{run-append, words-append}
 use Rattle.placing.proofs.BoundLaws.{copying-most}
 use borrow.Author.Needs.{needs}
@@ -28,8 +29,8 @@ add-program c = search needs
 program-requires : tie.Need-program-requires
 program-requires c κs =
     let erased = c .before .before .before in
-    let copied = erased .before .before .before .before in
-    let start = copied .before .before .before .before .before .before in
+    let copied = erased .before .before .before .before .before .before in
+    let start = copied .before .before .before .before .before .before .before .before in
     omega (
       arith,
       start .pre .0 .limits,
@@ -40,31 +41,37 @@ program-requires c κs =
 
 add-result : tie.Need-add-result
 add-result c =
-    let copied = c .before .before .before .before .before .before .before .before .before .before in
-    let start = copied .before .before .before .before .before .before in
+    let copied = c .before .before .before .before .before .before .before .before .before .before .before .before in
+    let start = copied .before .before .before .before .before .before .before .before in
     let a = start .args in
     omega (arith, start .pre .0 .limits, copied .copy-live .ensures .0, copying-most (a .geo) (a .image .now) (a .v) (a .t) (d (a .geo)) .0)
 
 same-length : tie.Need-same-length
 same-length c = search needs
 
+same-length-2 : tie.Need-same-length-2
+same-length-2 c = search needs
+
 returns : tie.Need-returns
-unfolding reclaiming applied run wordsIn
+unfolding reclaiming tableReclaimed applied run wordsIn
 returns c =
     let counted = c .before .before in
     let erased = counted .before .before .before .before in
-    let copied = erased .before .before .before .before in
-    let known = copied .before .before in
+    let copied = erased .before .before .before .before .before .before in
+    let known = copied .before .before .before in
     let started = known .before .before in
-    let target = started .before .before .pre .1 .1 .1 .0 in (
+    let target = started .before .before .before .pre .1 .1 .1 .0 in (
       rw (words-append, ← target, ← copied .copy-live .ensures .0),
-      rw (
-        run-append,
-        ← target,
-        ← copied .copy-live .ensures .1,
-        ← started .start .ensures,
-        ← known .erase-count .ensures,
-      ) (rw (erased .erase-block .ensures) at (counted .program .ensures)),
+      (
+        rw (
+          run-append,
+          ← target,
+          ← copied .copy-live .ensures .1 .0,
+          ← started .start .ensures,
+          ← known .erase-count .ensures,
+        ) (rw (erased .erase-block .ensures) at (counted .program .ensures)),
+        rw (← target) (copied .copy-live .ensures .1 .1),
+      ),
     )
 
 pub reclaim-spec : {M : Type 1} → statement M
@@ -79,4 +86,5 @@ reclaim-spec =
     program-requires
     add-result
     same-length
+    same-length-2
     returns)
