@@ -21,19 +21,31 @@ static inline struct shellwaltz_part part_of(struct geometry g, uint32_t *image)
     return (struct shellwaltz_part)SHELLWALTZ_PART(g.blocks, g.sectors, g.logical, image);
 }
 
-/* An image that is half full: half of the numbers are written by turns until half of the slots are used. */
-static void fill_half(struct geometry g, uint32_t *image)
+/* An image in which sectors were written by turns, under the first of the numbers. */
+static void fill_by_turns(struct geometry g, uint32_t numbers, uint32_t writes, uint32_t *image)
 {
-    uint32_t buffer[SECTOR], slots = g.blocks * (g.sectors - 1), numbers = (g.logical + 1) / 2;
+    uint32_t buffer[SECTOR];
     struct shellwaltz_part part = part_of(g, image);
     if (shellwaltz_part_format(&part).answer != 0)
         fail("format was refused");
-    for (uint32_t i = 0; i < slots / 2; i++) {
+    for (uint32_t i = 0; i < writes; i++) {
         for (uint32_t j = 0; j < SECTOR; j++)
             buffer[j] = i * 2654435761u + j;
         if (shellwaltz_part_write(&part, i % numbers, buffer).answer != 0)
             fail("a write was refused");
     }
+}
+
+/* An image that is half full: half of the numbers are written by turns until half of the slots are used. */
+static void fill_half(struct geometry g, uint32_t *image)
+{
+    fill_by_turns(g, (g.logical + 1) / 2, g.blocks * (g.sectors - 1) / 2, image);
+}
+
+/* An image that is nearly full: all numbers are written by turns until two slots are free beside those of the one blank block. */
+static inline void fill_nearly(struct geometry g, uint32_t *image)
+{
+    fill_by_turns(g, g.logical, (g.blocks - 1) * (g.sectors - 1) - 2, image);
 }
 
 /* Writes on, half of the numbers in no order, until the next write reclaims: its victim has live slots to copy. */

@@ -1,5 +1,6 @@
 /* Holds the linked library against the second implementation: the same call on two images that are the same, and afterwards the
- * answer, the counts, the block and the rule that the call names, the whole image and the whole buffer have to be the same again.
+ * answer, the counts, the block and the rule that the call names, the whole image, the whole buffer and the whole lookup table, where one
+ * was lent, have to be the same again.
  *
  *     compare SEED ROUNDS SECONDS
  *
@@ -11,13 +12,19 @@
  * Some calls are on an image with one to three planted faults (faults.h), in one block or in several. What was planted says which block
  * and rule have to be named, so there both sides are held against a third opinion as well.
  *
+ * Some calls are lent a table, a right one or one of the wrong kinds of tables.h, or one of another length. There the third opinion is what
+ * the library does without a table, and the table that follows from where the numbers were and are; and a right table has to be the
+ * one that the library builds afresh.
+ *
  * At the first difference it prints both, the call and the first word that differs, and fails. At the end it fails too where some
- * refusal of some call, some rule that a call can name, some way that planted faults can hide one another, or an erasure, never came
- * about: then the inputs have missed it.
+ * refusal of some call, some rule that a call can name, some way that planted faults can hide one another, some kind of table in some
+ * accepted call, or an erasure, never came about: then the inputs have missed it.
  *
  * The tests of this test, each of which must find what is changed: compiled with -DSPOIL it changes one word after some calls; with
  * -DSPOIL_PAIR=bad_block or -DSPOIL_PAIR=bad_rule that number of the second side, after some calls that answered 4; and with
- * -DSPOIL_BOTH=bad_block or -DSPOIL_BOTH=bad_rule that of both sides, where it is held against the planted faults. */
+ * -DSPOIL_BOTH=bad_block or -DSPOIL_BOTH=bad_rule that of both sides, where it is held against the planted faults. With -DSPOIL_TABLE it
+ * changes a word of the second side's table; with -DSPOIL_BOTH_TABLES=CONDITION one of both tables, after calls of which the condition holds;
+ * and with -DSPOIL_WITH_TABLE=PART that part of both sides, after calls with a table. */
 #define _POSIX_C_SOURCE 200809L
 #include <stdbool.h>
 #include <stdio.h>
@@ -25,11 +32,11 @@
 #include <string.h>
 #include <time.h>
 
+#include "calls.h"
 #include "came_about.h"
 
-enum { GUARD = 64, MOST_BUFFER = 2 * SECTOR, SHORT_RUN = 48, LONG_RUN = 1500, ANSWERS = 7 };
-enum { RUBBISH = 77 };       /* what a call finds where it is to put a number: neither a block nor a rule */
-enum { SMALL_IMAGE = 8192 }; /* words of an image on which a call takes next to no time */
+enum { SHORT_RUN = 48, LONG_RUN = 1500, ANSWERS = 7 };
+enum { RUBBISH = 77 }; /* what a call finds where it is to put a number: neither a block nor a rule */
 
 /* From the smallest to the largest, with one and two map words, L at both ends, and d at and beside 32. */
 static const struct geometry geometries[] = {
@@ -40,142 +47,90 @@ static const struct geometry geometries[] = {
 };
 enum { GEOMETRIES = sizeof geometries / sizeof *geometries, LEAST_ROUNDS = 4 * GEOMETRIES };
 
-/* ---- The two sides: the same words, each with guard words on both ends. */
-
-struct side {
-    uint32_t *image, *buffer; /* behind the guard */
-    uint32_t answer, count[4], bad_block, bad_rule;
-};
-
-static struct side ours, theirs;
-static uint32_t *before;    /* the image before the call, for the report */
-static size_t longest;      /* words of the largest image */
-
-static void fail(const char *why)
-{
-    printf("compare: %s\n", why);
-    exit(1);
-}
-
-static uint32_t *make_words(size_t n)
-{
-    uint32_t *words = malloc((n + 2 * GUARD) * sizeof *words);
-    if (!words)
-        fail("no memory");
-    for (size_t i = 0; i < n + 2 * GUARD; i++)
-        words[i] = 0x5A5A5A5Au;
-    return words + GUARD;
-}
-
-/* ---- Calls */
-
-enum call { FORMAT, CHECK, REPORT, READ, WRITE, RELEASE, CALLS };
-static const char *const names[CALLS] = {"format", "check", "report", "read", "write", "release"};
-
-struct asked {
-    enum call call;
-    struct geometry g;
-    size_t image_words, buffer_words;
-    uint32_t number;
-};
-
-static void call(const struct layer *layer, struct side *s, struct asked a)
-{
-    uint32_t b = a.g.blocks, p = a.g.sectors, l = a.g.logical, *n = s->count, *bad = &s->bad_block, *rule = &s->bad_rule;
-    switch (a.call) {
-    case FORMAT: s->answer = layer->format(b, p, l, s->image, a.image_words, n, n + 1); break;
-    case CHECK: s->answer = layer->check(b, p, l, s->image, a.image_words, bad, rule); break;
-    case REPORT: s->answer = layer->report(b, p, l, s->image, a.image_words, n, n + 1, n + 2, n + 3, bad, rule); break;
-    case READ: s->answer = layer->read(b, p, l, s->image, a.image_words, a.number, s->buffer, a.buffer_words, bad, rule); break;
-    case WRITE: s->answer = layer->write(b, p, l, s->image, a.image_words, a.number, s->buffer, a.buffer_words, n, n + 1, bad, rule); break;
-    default: s->answer = layer->release(b, p, l, s->image, a.image_words, a.number, n, n + 1, bad, rule); break;
-    }
-}
-
-/* A call on an image of geometry g: mostly as it should be, now and then with one thing out of its range. */
-static struct asked some_call(struct geometry g)
-{
-    static const enum call often[] = {WRITE, WRITE, WRITE, WRITE, WRITE, WRITE, READ, READ, READ, RELEASE, RELEASE, CHECK, REPORT};
-    struct asked a = {one_in(300) ? FORMAT : often[below(sizeof often / sizeof *often)], g, words_of(g), SECTOR, below(g.logical)};
-    static const uint32_t counts[] = {0, 1, 65, 128, 65535, 65536, 65538, 0x80000008u, 0xFFFFFFFFu};
-    if (one_in(3))
-        a.number %= 8;
-    switch (below(60)) {
-    case 0: a.g.blocks = counts[below(9)]; break;
-    case 1: a.g.sectors = counts[below(9)]; break;
-    case 2: a.g.logical = counts[below(9)]; break;
-    case 3: a.g.logical = SHELLWALTZ_MOST_LOGICAL(g.blocks, g.sectors) + below(3); break;
-    case 4: a.image_words = below((uint32_t)a.image_words + 1); break;
-    case 5: a.image_words += 1 + below(GUARD); break;
-    case 6: a.buffer_words = below(MOST_BUFFER + 1); break;
-    case 7: a.buffer_words = SECTOR - 1 + 2 * below(2); break;
-    case 8: a.number = g.logical + below(2); break;
-    case 9: a.number = one_in(2) ? ONES : (uint32_t)chance(); break;
-    default: break;
-    }
-    return a;
-}
-
 /* ---- Comparing */
+
+static struct side ours, theirs, wanted; /* the library, the second implementation, and what is wanted of a call with a table */
+static struct side *const sides[] = {&ours, &theirs, &wanted};
+enum { SIDES = sizeof sides / sizeof *sides };
+static struct lending lent;
+static uint32_t *before;                 /* the image before the call */
 
 static uint64_t seed;
 static unsigned round_number, call_number;
 static unsigned long compared, seen[CALLS][ANSWERS], named[CALLS][RULES + 1], erasures;
 
-/* The first place where n words differ, from the guard on; n + GUARD where none does. */
-static long first_difference(const uint32_t *x, const uint32_t *y, size_t n)
+/* The first place where n words of a size differ, from the guard on; n + GUARD where none does. */
+static long first_difference(const void *x, const void *y, size_t n, size_t size)
 {
-    if (memcmp(x - GUARD, y - GUARD, (n + 2 * GUARD) * sizeof *x) == 0)
+    const unsigned char *p = (const unsigned char *)x - GUARD * size, *q = (const unsigned char *)y - GUARD * size;
+    size_t bytes = (n + 2 * GUARD) * size, i = 0;
+    if (memcmp(p, q, bytes) == 0)
         return (long)(n + GUARD);
-    for (long i = -GUARD; i < (long)(n + GUARD); i++)
-        if (x[i] != y[i])
-            return i;
-    return (long)(n + GUARD);
+    while (p[i] == q[i])
+        i++;
+    return (long)(i / size) - GUARD;
 }
 
-static void show_words(const char *what, const uint32_t *x, const uint32_t *y, size_t n)
+static bool are_same(const void *x, const void *y, size_t n, size_t size)
 {
-    long at = first_difference(x, y, n);
-    if (at < (long)(n + GUARD))
-        printf("  first differing word of the %s: %ld: library %08x, second %08x\n", what, at, (unsigned)x[at], (unsigned)y[at]);
+    return first_difference(x, y, n, size) == (long)(n + GUARD);
 }
 
-static void show_numbers(const char *what, uint32_t x, uint32_t y)
+static unsigned word_at(const void *words, long at, size_t size)
+{
+    return size == sizeof(uint16_t) ? ((const uint16_t *)words)[at] : ((const uint32_t *)words)[at];
+}
+
+static void show_words(const char *what, const void *x, const struct side *other, const void *y, size_t n, size_t size)
+{
+    long at = first_difference(x, y, n, size);
+    if (at < (long)(n + GUARD))
+        printf("  first differing word of the %s: %ld: library %0*x, %s %0*x\n", what, at, (int)(2 * size), word_at(x, at, size), other->name,
+               (int)(2 * size), word_at(y, at, size));
+}
+
+static void show_numbers(const char *what, uint32_t x, const struct side *other, uint32_t y)
 {
     if (x != y)
-        printf("  %s: library %u, second %u\n", what, (unsigned)x, (unsigned)y);
+        printf("  %s: library %u, %s %u\n", what, (unsigned)x, other->name, (unsigned)y);
 }
 
-static void show_call(const char *what, struct asked a)
+static void show_call(const char *what, struct asked a, const struct side *other)
 {
     printf("compare: %s: seed %llu round %u call %u\n", what, (unsigned long long)seed, round_number, call_number);
     printf("  %s at (%u,%u,%u), image of %zu words, number %u, buffer of %zu words\n", names[a.call], (unsigned)a.g.blocks,
            (unsigned)a.g.sectors, (unsigned)a.g.logical, a.image_words, (unsigned)a.number, a.buffer_words);
-    printf("  answer: library %u, second %u\n", (unsigned)ours.answer, (unsigned)theirs.answer);
+    if (takes_table(a.call))
+        printf("  table of %zu words, kind: %s\n", a.table_words, kind_names[lent.kind]);
+    printf("  answer: library %u, %s %u\n", (unsigned)ours.answer, other->name, (unsigned)other->answer);
 }
 
-static void show_difference(struct asked a, size_t n)
+static void show_difference(const char *what, struct asked a, size_t n, const struct side *other)
 {
     static const char *const counts[4] = {"count 0", "count 1", "count 2", "count 3"};
-    show_call("difference", a);
+    show_call(what, a, other);
     for (int i = 0; i < 4; i++)
-        show_numbers(counts[i], ours.count[i], theirs.count[i]);
-    show_numbers("bad block", ours.bad_block, theirs.bad_block);
-    show_numbers("bad rule", ours.bad_rule, theirs.bad_rule);
-    show_words("image", ours.image, theirs.image, n);
-    long at = first_difference(ours.image, theirs.image, n);
+        show_numbers(counts[i], ours.count[i], other, other->count[i]);
+    show_numbers("bad block", ours.bad_block, other, other->bad_block);
+    show_numbers("bad rule", ours.bad_rule, other, other->bad_rule);
+    show_words("image", ours.image, other, other->image, n, sizeof *before);
+    long at = first_difference(ours.image, other->image, n, sizeof *before);
     if (at >= 0 && at < (long)n)
         printf("  it was %08x before the call\n", (unsigned)before[at]);
-    show_words("buffer", ours.buffer, theirs.buffer, MOST_BUFFER);
+    show_words("buffer", ours.buffer, other, other->buffer, MOST_BUFFER, sizeof *ours.buffer);
+    if (takes_table(a.call))
+        show_words("table", ours.table, other, other->table, a.table_words, sizeof *ours.table);
     exit(1);
 }
 
-static bool are_alike(size_t n)
+/* Whether the library has given and left the same as the other side. */
+static bool are_alike(struct asked a, size_t n, const struct side *other)
 {
-    return ours.answer == theirs.answer && memcmp(ours.count, theirs.count, sizeof ours.count) == 0
-           && ours.bad_block == theirs.bad_block && ours.bad_rule == theirs.bad_rule
-           && first_difference(ours.image, theirs.image, n) == (long)(n + GUARD)
-           && first_difference(ours.buffer, theirs.buffer, MOST_BUFFER) == MOST_BUFFER + GUARD;
+    return ours.answer == other->answer && memcmp(ours.count, other->count, sizeof ours.count) == 0
+           && ours.bad_block == other->bad_block && ours.bad_rule == other->bad_rule
+           && are_same(ours.image, other->image, n, sizeof *ours.image)
+           && are_same(ours.buffer, other->buffer, MOST_BUFFER, sizeof *ours.buffer)
+           && (!takes_table(a.call) || are_same(ours.table, other->table, a.table_words, sizeof *ours.table));
 }
 
 /* Whether a block and a rule are named with the answer 4 and with no other, and the number of blocks with R6 and with no other rule. */
@@ -192,20 +147,112 @@ static bool names_what_it_may(struct asked a)
 
 static void show_named(const char *what, struct asked a)
 {
-    show_call(what, a);
+    show_call(what, a, &theirs);
     printf("  named by both: block %u, rule %u\n", (unsigned)ours.bad_block, (unsigned)ours.bad_rule);
 }
 
-static void compare_call(struct asked a, size_t n)
+/* The same on each side: a buffer at random, and rubbish where the call is to put a number. */
+static void make_ready(void)
 {
     for (int j = 0; j < MOST_BUFFER; j++)
-        theirs.buffer[j] = ours.buffer[j] = (uint32_t)chance();
-    for (int i = 0; i < 4; i++)
-        theirs.count[i] = ours.count[i] = RUBBISH;
-    theirs.bad_block = ours.bad_block = theirs.bad_rule = ours.bad_rule = RUBBISH;
-    memcpy(before, ours.image, n * sizeof *before);
-    call(&library, &ours, a);
-    call(&second, &theirs, a);
+        wanted.buffer[j] = theirs.buffer[j] = ours.buffer[j] = (uint32_t)chance();
+    for (int s = 0; s < SIDES; s++) {
+        for (int i = 0; i < 4; i++)
+            sides[s]->count[i] = RUBBISH;
+        sides[s]->bad_block = sides[s]->bad_rule = RUBBISH;
+    }
+}
+
+/* The same table on each side, with a guard behind its last word. At the first place that is outside, in the guard of the image, the number
+ * seems to be stored: who looks there is taken in. */
+static void lend_table(struct asked a, struct geometry g)
+{
+    size_t bytes = a.table_words * sizeof *ours.table;
+    lent.kind = a.kind;
+    lent.g = (struct geometry){g.blocks, g.sectors, (uint32_t)a.table_words};
+    find_all(lent.g, ours.image, lent.places);
+    fill_table(&lent, ours.image, ours.table);
+    lent.right = a.table_words == a.g.logical && memcmp(ours.table, lent.places, bytes) == 0;
+    lent.misleads = a.number < a.table_words && ours.table[a.number] != lent.places[a.number];
+    for (int s = 0; s < SIDES; s++) {
+        if (sides[s] != &ours)
+            memcpy(sides[s]->table, ours.table, bytes);
+        guard_end(sides[s]->table, a.table_words, sizeof *ours.table);
+        *entries_of(g, block_of(g, sides[s]->image, g.blocks)) = LIVE + a.number;
+    }
+}
+
+/* Whether the call has to refuse the table for its length: that is asked right after the geometry. */
+static bool refuses_the_length(struct asked a)
+{
+    uint32_t bad_block, bad_rule;
+    return a.table_words != a.g.logical
+           && library.check(a.g.blocks, a.g.sectors, a.g.logical, before, a.image_words, &bad_block, &bad_rule) != SHELLWALTZ_BAD_GEOMETRY;
+}
+
+/* The third opinion on a call with a table: what the library gives and leaves without one, and the table that follows from the places. A
+ * refusal that only a table can meet with gives and leaves what every refusal does. */
+static void make_wanted(struct asked a, size_t n)
+{
+    struct asked plain = a;
+    bool other_length = refuses_the_length(a);
+    plain.call = without_table[a.call];
+    if (other_length)
+        plain.g.logical = 0;
+    memcpy(wanted.image, before, n * sizeof *before);
+    call(&library, &wanted, plain);
+    if (other_length)
+        wanted.answer = SHELLWALTZ_BAD_BUFFER;
+    if (wanted.answer == SHELLWALTZ_OK)
+        follow_places(&lent, wanted.image, a.call == BUILD_TABLE, wanted.table);
+}
+
+/* A right table is right after an accepted call: the one that is built afresh, here from words that are all wrong. */
+static void hold_against_a_build(struct asked a, size_t n)
+{
+    for (size_t i = 0; i < a.table_words; i++)
+        wanted.table[i] = (uint16_t)~ours.table[i];
+    struct side afresh = wanted;
+    call(&library, &afresh, sound_call(BUILD_TABLE, a.g));
+    if (afresh.answer != SHELLWALTZ_OK || !are_alike(a, n, &wanted))
+        show_difference("another table than is built afresh", a, n, &wanted);
+}
+
+static void hold_against_wanted(struct asked a, size_t n)
+{
+    make_wanted(a, n);
+    if (!are_alike(a, n, &wanted))
+        show_difference("not what is wanted with a table", a, n, &wanted);
+    if (ours.answer == SHELLWALTZ_OK && lent.right)
+        hold_against_a_build(a, n);
+}
+
+static void count_table(struct asked a)
+{
+    static const enum deed deeds[CALLS] = {[BUILD_TABLE] = BUILT, [READ_WITH_TABLE] = READ_IT, [RELEASE_WITH_TABLE] = RELEASED};
+    if (ours.answer == SHELLWALTZ_OK)
+        count_lent(&lent, a.call == WRITE_WITH_TABLE ? deed_of_write(&lent, before, ours.image, a.number) : deeds[a.call]);
+    else if (ours.answer == SHELLWALTZ_BAD_BUFFER && a.buffer_words == SECTOR)
+        lent_so.length[a.call - BUILD_TABLE][kind_of_length(a.table_words, a.g.logical)]++;
+}
+
+static void count_call(struct asked a)
+{
+    compared++;
+    seen[a.call][ours.answer]++;
+    if (ours.answer == SHELLWALTZ_MALFORMED)
+        named[a.call][ours.bad_rule]++;
+    if (writes(a.call))
+        erasures += ours.count[1];
+    if (takes_table(a.call))
+        count_table(a);
+}
+
+/* What is changed for the tests of this test. */
+static void spoil(struct asked a, size_t n)
+{
+    bool has_words = takes_table(a.call) && a.table_words > 0;
+    (void)has_words, (void)n;
 #ifdef SPOIL
     if (one_in(200))
         theirs.image[below((uint32_t)n)] ^= 1u << below(32);
@@ -214,20 +261,44 @@ static void compare_call(struct asked a, size_t n)
     if (theirs.answer == SHELLWALTZ_MALFORMED && one_in(20))
         theirs.SPOIL_PAIR ^= 1;
 #endif
-    if (!are_alike(n))
-        show_difference(a, n);
+#ifdef SPOIL_TABLE
+    if (has_words && one_in(20))
+        theirs.table[below((uint32_t)a.table_words)] ^= (uint16_t)(1u << below(16));
+#endif
+#ifdef SPOIL_BOTH_TABLES
+    if (has_words && (SPOIL_BOTH_TABLES) && one_in(20)) {
+        uint32_t at = below((uint32_t)a.table_words);
+        theirs.table[at] = ours.table[at] ^= (uint16_t)(1u << below(16));
+    }
+#endif
+#ifdef SPOIL_WITH_TABLE
+    if (takes_table(a.call) && one_in(20))
+        theirs.SPOIL_WITH_TABLE = ours.SPOIL_WITH_TABLE ^= 1;
+#endif
+}
+
+/* A call on an image of geometry g. */
+static void compare_call(struct asked a, struct geometry g)
+{
+    size_t n = words_of(g);
+    make_ready();
+    memcpy(before, ours.image, n * sizeof *before);
+    if (takes_table(a.call))
+        lend_table(a, g);
+    call(&library, &ours, a);
+    call(&second, &theirs, a);
+    spoil(a, n);
+    if (!are_alike(a, n, &theirs))
+        show_difference("difference", a, n, &theirs);
     if (ours.answer >= ANSWERS)
-        fail("an answer that the table does not have");
+        fail("an answer that no call has");
     if (!names_what_it_may(a)) {
         show_named("a block and a rule that the call cannot name", a);
         exit(1);
     }
-    compared++;
-    seen[a.call][ours.answer]++;
-    if (ours.answer == SHELLWALTZ_MALFORMED)
-        named[a.call][ours.bad_rule]++;
-    if (a.call == WRITE)
-        erasures += ours.count[1];
+    if (takes_table(a.call))
+        hold_against_wanted(a, n);
+    count_call(a);
 }
 
 static void copy_over(size_t n)
@@ -245,7 +316,7 @@ static void on_a_damaged_image(struct geometry g, uint32_t *kept)
         damage(g, ours.image);
     copy_over(n);
     for (int i = 0; i < 4; i++, call_number++)
-        compare_call(i == 0 ? (struct asked){CHECK, g, n, SECTOR, 0} : some_call(g), n);
+        compare_call(i == 0 ? sound_call(CHECK, g) : some_call(g), g);
     memcpy(ours.image, kept, n * sizeof *kept);
     copy_over(n);
 }
@@ -271,23 +342,41 @@ static void on_a_faulty_image(struct geometry g, uint32_t *kept)
 {
     static struct planting planted;
     size_t n = words_of(g);
-    struct asked a = {CHECK, g, n, SECTOR, 0};
+    struct asked a = sound_call(CHECK, g);
     memcpy(kept, ours.image, n * sizeof *kept);
     plant_faults(&planted, g, ours.image);
     copy_over(n);
-    compare_call(a, n);
+    compare_call(a, g);
     hold_against(&planted, a);
     count_faults(&planted);
     for (int i = 0; i < 3 && ours.answer != SHELLWALTZ_OK; i++) {
         a = some_call(g);
         call_number++;
-        compare_call(a, n);
+        compare_call(a, g);
         if (ours.answer == SHELLWALTZ_MALFORMED && a.g.logical == g.logical)
             hold_against(&planted, a);
     }
     memcpy(ours.image, kept, n * sizeof *kept);
     copy_over(n);
     call_number++;
+}
+
+/* A reclaim that moves something is rare. Where a write came to one, such writes are done from the image before it: with each kind of table,
+ * or where a call takes long with one of them. */
+static void reclaim_again(struct asked a, struct geometry g, uint32_t *kept)
+{
+    size_t n = words_of(g);
+    int times = n <= 4 * SMALL_IMAGE ? KINDS : 1;
+    a.call = WRITE_WITH_TABLE;
+    a.table_words = a.g.logical;
+    memcpy(kept, before, n * sizeof *kept);
+    for (int i = 0; i < times; i++, call_number++) {
+        a.kind = times == 1 ? some_kind() : (enum table_kind)i;
+        a.number = one_in(2) ? a.number : below(g.logical);
+        memcpy(ours.image, kept, n * sizeof *kept);
+        copy_over(n);
+        compare_call(a, g);
+    }
 }
 
 static void one_round(uint32_t *kept)
@@ -298,10 +387,10 @@ static void one_round(uint32_t *kept)
     call_number = 0;
     make_image(g, ours.image);
     copy_over(n);
-    if (one_in(4))
-        compare_call((struct asked){FORMAT, g, n, SECTOR, 0}, n);
-    else
-        compare_call((struct asked){CHECK, g, n, SECTOR, 0}, n);
+    for (int s = 0; s < SIDES; s++)
+        guard_end(sides[s]->image, n, sizeof *ours.image);
+    keep_as_older(g, ours.image);
+    compare_call(sound_call(one_in(4) ? FORMAT : CHECK, g), g);
     if (ours.answer != 0)
         fail("an image that was to be well formed is not");
     /* Planting is for the end of a run, and rarer where a call takes long: what it has to bring about does not depend on the size. */
@@ -310,16 +399,21 @@ static void one_round(uint32_t *kept)
             on_a_damaged_image(g, kept);
         if (calls <= SHORT_RUN && (n <= SMALL_IMAGE || one_in(6)))
             on_a_faulty_image(g, kept);
-        compare_call(some_call(g), n);
+        struct asked a = some_call(g);
+        compare_call(a, g);
+        if (writes(a.call) && ours.count[0] > 2 * SECTOR) /* more than its own sector was placed */
+            reclaim_again(a, g, kept);
+        if (one_in(12))
+            keep_as_older(g, ours.image);
     }
 }
 
 /* Whether the call was accepted and was refused in every way that its row of the table has and, if it answers 4, has named every rule. */
 static bool show_row(enum call c)
 {
-    static const char *const rows[CALLS] = {"01", "014", "014", "012345", "012346", "01345"};
+    static const char *const rows[CALLS] = {"01", "014", "014", "012345", "012346", "01345", "0124", "012345", "012346", "012345"};
     bool complete = true;
-    printf("  %-7s", names[c]);
+    printf("  %-18s", names[c]);
     for (int r = 0; r < ANSWERS; r++) {
         printf(" %lu", seen[c][r]);
         complete &= (strchr(rows[c], '0' + r) != NULL) == (seen[c][r] > 0);
@@ -336,6 +430,7 @@ static void all_came_about(void)
     for (int c = 0; c < CALLS; c++)
         complete &= show_row((enum call)c);
     complete &= show_what_came_about();
+    complete &= show_what_was_lent();
     if (!complete)
         fail("the inputs have missed something");
     if (erasures == 0)
@@ -349,13 +444,15 @@ int main(int argc, char **argv)
     seed = strtoull(argv[1], NULL, 10);
     unsigned rounds = (unsigned)strtoul(argv[2], NULL, 10);
     time_t end = time(NULL) + (time_t)strtol(argv[3], NULL, 10);
+    size_t longest = 0;
     for (int i = 0; i < GEOMETRIES; i++)
         if (words_of(geometries[i]) > longest)
             longest = words_of(geometries[i]);
-    ours = (struct side){.image = make_words(longest), .buffer = make_words(MOST_BUFFER)};
-    theirs = (struct side){.image = make_words(longest), .buffer = make_words(MOST_BUFFER)};
-    before = make_words(longest);
-    uint32_t *kept = make_words(longest);
+    ours = make_side("library", longest);
+    theirs = make_side("second", longest);
+    wanted = make_side("wanted", longest);
+    before = make_words(longest, sizeof *before);
+    uint32_t *kept = make_words(longest, sizeof *kept);
     for (round_number = 0; round_number < rounds && (round_number < LEAST_ROUNDS || time(NULL) < end); round_number++)
         one_round(kept);
     printf("compare: seed %llu, %u rounds over %d geometries, %lu calls alike, %lu erasures; calls by answer 0 to 6 | by rule 1 to 7:\n",

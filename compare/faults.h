@@ -45,8 +45,7 @@ static bool is_used(const struct planting *p, uint32_t b, uint32_t slot)
 
 static bool is_live(const struct planting *p, uint32_t b, uint32_t slot)
 {
-    uint32_t entry = *entry_of(p, b, slot);
-    return entry >= LIVE && entry < LIVE + p->g.logical;
+    return says_live(p->g, *entry_of(p, b, slot));
 }
 
 static bool is_loose(const struct planting *p, uint32_t b, uint32_t slot)

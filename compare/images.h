@@ -73,6 +73,11 @@ static uint32_t *contents_of(uint32_t *block, uint32_t slot)
     return block + (size_t)(slot + 1) * SECTOR;
 }
 
+static bool says_live(struct geometry g, uint32_t entry)
+{
+    return entry >= LIVE && entry < LIVE + g.logical;
+}
+
 /* ---- Well-formed images */
 
 static uint32_t some_count(void)

@@ -8,7 +8,9 @@ enum { BLOCKS = 4, SECTORS = 8, LOGICAL = 16, SETTINGS = 7 };
 
 /* The mirror of the part. A driver loads it at the start, and carries over to the part what each accepted call changed: docs/USING.md. */
 static uint32_t image[SHELLWALTZ_IMAGE_WORDS(BLOCKS, SECTORS)];
-static const struct shellwaltz_part meter = SHELLWALTZ_PART(BLOCKS, SECTORS, LOGICAL, image);
+/* Where each sector is, so that no call has to search for it. */
+static uint16_t table[LOGICAL];
+static const struct shellwaltz_part meter = SHELLWALTZ_PART_WITH_TABLE(BLOCKS, SECTORS, LOGICAL, image, table);
 
 static void show(const char *what, struct shellwaltz_result r)
 {
@@ -22,6 +24,11 @@ int main(void)
     uint32_t sector[SHELLWALTZ_SECTOR_WORDS] = {0};
 
     show("format", shellwaltz_part_format(&meter));
+
+    /* After a format, and at each start; from then on the calls keep the table right. */
+    struct shellwaltz_result built = shellwaltz_part_build_table(&meter);
+    if (built.answer != SHELLWALTZ_OK)
+        show("build_table", built);
 
     /* Nothing is stored under the number yet: the refusal tells, and the buffer keeps its words. */
     show("read", shellwaltz_part_read(&meter, SETTINGS, sector));

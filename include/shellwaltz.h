@@ -12,19 +12,19 @@
  * The header has two layers. First the proved functions, with every part of what they take and give as a parameter. Below them, and
  * shorter to call, functions over a struct for the part and results by value; they only pass on (see "The short calls").
  *
- * What is handed in: every number may have any value, and an image or a buffer any length and contents. A pointer must be good for
- * the length handed in with it (also where that is 0), and a pointer to a single number for one uint32_t. What a call writes (an image or
- * buffer that is not const, and the numbers) must overlap with nothing else that is handed to it. Lengths are in words, not bytes.
+ * What is handed in: every number may have any value, and an image, a buffer or a table any length and contents. A pointer must be good for
+ * the length handed in with it (also where that is 0), and a pointer to a single number for one uint32_t. What a call writes (an image,
+ * buffer or table that is not const, and the numbers) must overlap with nothing else that is handed to it. Lengths are in words, not bytes.
  *
  * What comes back: SHELLWALTZ_OK, or the first refusal below that applies, in the order of their numbers. A refused call changes no
- * word of the image and none of the buffer, and gives 0 for every count. So a call either does all of its work or none.
+ * word of the image, none of the buffer and none of the table, and gives 0 for every count. So a call either does all of its work or none.
  *
  * SHELLWALTZ_MALFORMED comes with the block and the rule (1 to 7, docs/FORMAT.md) that fail first: blocks in ascending order, and within a
  * block its rules in the order of their numbers. A number that is stored in two slots is charged to the block of the later one. Rule 6, that
  * some block is blank, is the whole image's: it is named last, with `blocks` as the bad block. With every other answer, *bad_block and
  * *bad_rule are 0.
  *
- * The contract of each function of the first layer is proved for every input: crates/shellwaltz_c/src/lib.rt has it as equations. */
+ * The contract of each function of the first layer is proved for every input: crates/shellwaltz_c/src has it as equations. */
 #ifndef SHELLWALTZ_H
 #define SHELLWALTZ_H
 
@@ -47,10 +47,13 @@ extern "C" {
 /* The erase count at which a block is not erased any more. */
 #define SHELLWALTZ_CEILING 1000000u
 
+/* The word of a lookup table for a number that is not stored. */
+#define SHELLWALTZ_NOWHERE 0xFFFFu
+
 /* The answers. */
 #define SHELLWALTZ_OK 0u           /* the call did what it is for */
 #define SHELLWALTZ_BAD_GEOMETRY 1u /* blocks or sectors not within 2 to 64, logical not within 1 to MOST_LOGICAL, or an image of another length */
-#define SHELLWALTZ_BAD_BUFFER 2u   /* the buffer is not 128 words */
+#define SHELLWALTZ_BAD_BUFFER 2u   /* the buffer is not 128 words, or the lookup table not `logical` words */
 #define SHELLWALTZ_BAD_NUMBER 3u   /* the number is not below `logical` */
 #define SHELLWALTZ_MALFORMED 4u    /* the image breaks a rule of the format */
 #define SHELLWALTZ_UNMAPPED 5u     /* nothing is stored under the number */
@@ -87,18 +90,54 @@ uint32_t shellwaltz_write(uint32_t blocks, uint32_t sectors, uint32_t logical, u
 uint32_t shellwaltz_release(uint32_t blocks, uint32_t sectors, uint32_t logical, uint32_t *image, size_t image_words,
                             uint32_t number, uint32_t *words, uint32_t *erasures, uint32_t *bad_block, uint32_t *bad_rule);
 
-/* ---- The short calls: each passes the part and its own arguments on to the proved function of the same name, and nothing else. A buffer
- * is always 128 words here, so no call of these is refused with 2. What is said above of pointers holds of the part's image as well. */
+/* ---- The same with a lookup table, which spares a call the search for its sector. The caller lends `logical` words of 16 bits; for each
+ * number the word is block * (sectors - 1) + slot, or SHELLWALTZ_NOWHERE. (A call still checks the whole image first; docs/BENCHMARKS.md
+ * says what the search costs beside that.)
+ *
+ * Nothing is taken on trust: whatever the table holds, what a call answers, counts and leaves of image and buffer is what the call without a
+ * table gives, and a table of another length than `logical` is refused with 2. Accepted calls keep a right table right. A wrong one costs time
+ * and nothing else: an accepted write sets the words of its number and of those that it had to move, a release that of its number, and all
+ * others stay. After a format, and after a write or a release without the table, build it anew. */
 
-/* A part: its geometry, and the image that mirrors it. SHELLWALTZ_PART initialises one whose image has the words that its geometry says,
- * in C and in C++; later versions may add fields, which it then sets as well. */
+/* Builds the table, whatever it holds. Refuses 1, 2 and 4. Changes no word of the image. */
+uint32_t shellwaltz_build_table(uint32_t blocks, uint32_t sectors, uint32_t logical, const uint32_t *image, size_t image_words,
+                                uint16_t *table, size_t table_words, uint32_t *bad_block, uint32_t *bad_rule);
+
+/* As shellwaltz_read. Refuses 1, 2, 3, 4 and 5. Changes no word of the table. */
+uint32_t shellwaltz_read_with_table(uint32_t blocks, uint32_t sectors, uint32_t logical, const uint32_t *image, size_t image_words,
+                                    uint32_t number, uint32_t *buffer, size_t buffer_words, const uint16_t *table, size_t table_words,
+                                    uint32_t *bad_block, uint32_t *bad_rule);
+
+/* As shellwaltz_write. Refuses 1, 2, 3, 4 and 6. */
+uint32_t shellwaltz_write_with_table(uint32_t blocks, uint32_t sectors, uint32_t logical, uint32_t *image, size_t image_words,
+                                     uint32_t number, const uint32_t *buffer, size_t buffer_words, uint16_t *table, size_t table_words,
+                                     uint32_t *words, uint32_t *erasures, uint32_t *bad_block, uint32_t *bad_rule);
+
+/* As shellwaltz_release. Refuses 1, 2, 3, 4 and 5. */
+uint32_t shellwaltz_release_with_table(uint32_t blocks, uint32_t sectors, uint32_t logical, uint32_t *image, size_t image_words,
+                                       uint32_t number, uint16_t *table, size_t table_words, uint32_t *words, uint32_t *erasures,
+                                       uint32_t *bad_block, uint32_t *bad_rule);
+
+/* ---- The short calls: each passes the part and its own arguments on to the proved function of the same name, and nothing else; a read, a
+ * write or a release of a part that has a lookup table, to the one with a table. A buffer is always 128 words here. What is said above of
+ * pointers holds of the part's image and table as well. */
+
+/* A part: its geometry, the image that mirrors it, and its lookup table, if it has one (else `table` is a null pointer). SHELLWALTZ_PART
+ * initialises one without a table and SHELLWALTZ_PART_WITH_TABLE one with a table of `logical` words, both with an image of the words that
+ * the geometry says, in C and in C++; later versions may add fields, which they then set as well. */
 struct shellwaltz_part {
     uint32_t blocks, sectors, logical;
     uint32_t *image;
     size_t image_words;
+    uint16_t *table;
+    size_t table_words;
 };
 
-#define SHELLWALTZ_PART(blocks, sectors, logical, image) {(blocks), (sectors), (logical), (image), SHELLWALTZ_IMAGE_WORDS(blocks, sectors)}
+#define SHELLWALTZ_PART_WITH_TABLE(blocks, sectors, logical, image, table) \
+    {(blocks), (sectors), (logical), (image), SHELLWALTZ_IMAGE_WORDS(blocks, sectors), (table), (logical)}
+
+#define SHELLWALTZ_PART(blocks, sectors, logical, image) \
+    {(blocks), (sectors), (logical), (image), SHELLWALTZ_IMAGE_WORDS(blocks, sectors), (uint16_t *)0, 0}
 
 /* What a call gave. `words` and `erasures` are 0 where the call has no such count; `bad_block` and `bad_rule` are those of
  * SHELLWALTZ_MALFORMED, and otherwise 0. */
@@ -133,12 +172,26 @@ static inline struct shellwaltz_totals shellwaltz_part_report(const struct shell
     return t;
 }
 
+/* Builds the part's table; of a part that has none it is refused, with 2 or with 1. */
+static inline struct shellwaltz_result shellwaltz_part_build_table(const struct shellwaltz_part *part)
+{
+    struct shellwaltz_result r = {0, 0, 0, 0, 0};
+    uint16_t none[1] = {SHELLWALTZ_NOWHERE};
+    r.answer = shellwaltz_build_table(part->blocks, part->sectors, part->logical, part->image, part->image_words,
+                                      part->table ? part->table : none, part->table ? part->table_words : 0, &r.bad_block, &r.bad_rule);
+    return r;
+}
+
 /* To 128 words. */
 static inline struct shellwaltz_result shellwaltz_part_read(const struct shellwaltz_part *part, uint32_t number, uint32_t *buffer)
 {
     struct shellwaltz_result r = {0, 0, 0, 0, 0};
-    r.answer = shellwaltz_read(part->blocks, part->sectors, part->logical, part->image, part->image_words, number, buffer,
-                               SHELLWALTZ_SECTOR_WORDS, &r.bad_block, &r.bad_rule);
+    if (part->table)
+        r.answer = shellwaltz_read_with_table(part->blocks, part->sectors, part->logical, part->image, part->image_words, number, buffer,
+                                              SHELLWALTZ_SECTOR_WORDS, part->table, part->table_words, &r.bad_block, &r.bad_rule);
+    else
+        r.answer = shellwaltz_read(part->blocks, part->sectors, part->logical, part->image, part->image_words, number, buffer,
+                                   SHELLWALTZ_SECTOR_WORDS, &r.bad_block, &r.bad_rule);
     return r;
 }
 
@@ -146,16 +199,25 @@ static inline struct shellwaltz_result shellwaltz_part_read(const struct shellwa
 static inline struct shellwaltz_result shellwaltz_part_write(const struct shellwaltz_part *part, uint32_t number, const uint32_t *buffer)
 {
     struct shellwaltz_result r = {0, 0, 0, 0, 0};
-    r.answer = shellwaltz_write(part->blocks, part->sectors, part->logical, part->image, part->image_words, number, buffer,
-                                SHELLWALTZ_SECTOR_WORDS, &r.words, &r.erasures, &r.bad_block, &r.bad_rule);
+    if (part->table)
+        r.answer = shellwaltz_write_with_table(part->blocks, part->sectors, part->logical, part->image, part->image_words, number, buffer,
+                                               SHELLWALTZ_SECTOR_WORDS, part->table, part->table_words, &r.words, &r.erasures, &r.bad_block,
+                                               &r.bad_rule);
+    else
+        r.answer = shellwaltz_write(part->blocks, part->sectors, part->logical, part->image, part->image_words, number, buffer,
+                                    SHELLWALTZ_SECTOR_WORDS, &r.words, &r.erasures, &r.bad_block, &r.bad_rule);
     return r;
 }
 
 static inline struct shellwaltz_result shellwaltz_part_release(const struct shellwaltz_part *part, uint32_t number)
 {
     struct shellwaltz_result r = {0, 0, 0, 0, 0};
-    r.answer = shellwaltz_release(part->blocks, part->sectors, part->logical, part->image, part->image_words, number, &r.words, &r.erasures,
-                                  &r.bad_block, &r.bad_rule);
+    if (part->table)
+        r.answer = shellwaltz_release_with_table(part->blocks, part->sectors, part->logical, part->image, part->image_words, number,
+                                                 part->table, part->table_words, &r.words, &r.erasures, &r.bad_block, &r.bad_rule);
+    else
+        r.answer = shellwaltz_release(part->blocks, part->sectors, part->logical, part->image, part->image_words, number, &r.words,
+                                      &r.erasures, &r.bad_block, &r.bad_rule);
     return r;
 }
 
@@ -166,7 +228,7 @@ static inline const char *shellwaltz_meaning(uint32_t answer)
     switch (answer) {
     case SHELLWALTZ_OK: return "The call did what it is for.";
     case SHELLWALTZ_BAD_GEOMETRY: return "The geometry is outside its limits, or the image has another length.";
-    case SHELLWALTZ_BAD_BUFFER: return "The buffer is not 128 words.";
+    case SHELLWALTZ_BAD_BUFFER: return "The buffer is not 128 words, or the lookup table has not a word for each number.";
     case SHELLWALTZ_BAD_NUMBER: return "There is no logical sector of this number.";
     case SHELLWALTZ_MALFORMED: return "The image breaks a rule of the format.";
     case SHELLWALTZ_UNMAPPED: return "Nothing is stored under this number.";

@@ -1,17 +1,21 @@
-/* The short calls of include/shellwaltz.h only pass on: each gives, changes and leaves what the proved function of the same name does. Tried
- * on images that are sound, bad in a block and bad as a whole, with numbers in and out of range, and with geometries that are refused. And
- * the sentences for logs: each number has one of its own, and every other number the same one. */
+/* The short calls of include/shellwaltz.h only pass on: each gives, changes and leaves what the proved function of the same name does; of a part
+ * with a lookup table, what the one with a table does. Tried on images that are sound, bad in a block and bad as a whole, with numbers in
+ * and out of range, with geometries that are refused, and with no table, a right one, a wrong one and one that is too short. And the
+ * sentences for logs: each number has one of its own, and every other number the same one. */
 #include <stdio.h>
 #include <stdlib.h>
 #include <string.h>
 
 #include "../include/shellwaltz.h"
 
-enum { BLOCKS = 3, SECTORS = 3, LOGICAL = 3, WORDS = BLOCKS * SECTORS * 128, NUMBERS = 5, IMAGES = 4, CALLS = 6, SHAPES = 3 };
+enum { BLOCKS = 3, SECTORS = 3, LOGICAL = 3, WORDS = BLOCKS * SECTORS * 128, NUMBERS = 5, IMAGES = 4, CALLS = 7, SHAPES = 3 };
+enum { NO_TABLE, RIGHT, WRONG, TOO_SHORT, TABLES };
 
-/* What a call leaves: its image, its buffer, and what it gives, in the order of struct shellwaltz_totals or of struct shellwaltz_result. */
+/* What a call leaves: its image, its buffer, its table and the word behind it, and what it gives, in the order of struct shellwaltz_totals or
+ * of struct shellwaltz_result. */
 struct left {
     uint32_t image[WORDS], buffer[SHELLWALTZ_SECTOR_WORDS], given[7];
+    uint16_t table[LOGICAL + 1];
 };
 
 static unsigned compared, answers_seen[7];
@@ -48,6 +52,24 @@ static void proved(int call, struct shellwaltz_part p, uint32_t n, struct left *
     }
 }
 
+/* Of a part that has no table, a build is that of one of no words. */
+static void proved_with_table(int call, struct shellwaltz_part p, uint32_t n, struct left *l)
+{
+    uint32_t *g = l->given, *b = l->buffer, words = SHELLWALTZ_SECTOR_WORDS;
+    uint16_t *t = l->table;
+    size_t size = p.table_words;
+    switch (call) {
+    case 3: g[0] = shellwaltz_read_with_table(p.blocks, p.sectors, p.logical, p.image, p.image_words, n, b, words, t, size, g + 3, g + 4); break;
+    case 4:
+        g[0] = shellwaltz_write_with_table(p.blocks, p.sectors, p.logical, p.image, p.image_words, n, b, words, t, size, g + 1, g + 2, g + 3, g + 4);
+        break;
+    case 5:
+        g[0] = shellwaltz_release_with_table(p.blocks, p.sectors, p.logical, p.image, p.image_words, n, t, size, g + 1, g + 2, g + 3, g + 4);
+        break;
+    default: g[0] = shellwaltz_build_table(p.blocks, p.sectors, p.logical, p.image, p.image_words, t, size, g + 3, g + 4); break;
+    }
+}
+
 static void by_the_short_call(int call, struct shellwaltz_part p, uint32_t n, struct left *l)
 {
     struct shellwaltz_result r = {0, 0, 0, 0, 0};
@@ -58,30 +80,54 @@ static void by_the_short_call(int call, struct shellwaltz_part p, uint32_t n, st
     case 2: t = shellwaltz_part_report(&p); break;
     case 3: r = shellwaltz_part_read(&p, n, l->buffer); break;
     case 4: r = shellwaltz_part_write(&p, n, l->buffer); break;
-    default: r = shellwaltz_part_release(&p, n); break;
+    case 5: r = shellwaltz_part_release(&p, n); break;
+    default: r = shellwaltz_part_build_table(&p); break;
     }
     uint32_t result[7] = {r.answer, r.words, r.erasures, r.bad_block, r.bad_rule};
     uint32_t totals[7] = {t.answer, t.mapped, t.free_slots, t.dead, t.erase_sum, t.bad_block, t.bad_rule};
     memcpy(l->given, call == 2 ? totals : result, sizeof l->given);
 }
 
-static void compare(int call, int which, int shape, uint32_t n)
+/* The part that `l` has the image of, with the table that is asked for. */
+static struct shellwaltz_part make_part(int shape, int tabled, struct left *l)
+{
+    struct shellwaltz_part none = SHELLWALTZ_PART(BLOCKS, SECTORS, LOGICAL, l->image);
+    struct shellwaltz_part p = SHELLWALTZ_PART_WITH_TABLE(BLOCKS, SECTORS, LOGICAL, l->image, l->table);
+    if (tabled == RIGHT)
+        shellwaltz_part_build_table(&p);
+    if (tabled == NO_TABLE)
+        p = none;
+    if (tabled == TOO_SHORT)
+        p.table_words = LOGICAL - 1;
+    if (shape == 1)
+        p.logical = 0;
+    if (shape == 2)
+        p.image_words = WORDS - 1;
+    return p;
+}
+
+static void compare(int call, int which, int shape, int tabled, uint32_t n)
 {
     static struct left ours, theirs;
     memset(&ours, 0, sizeof ours);
     make_image(which, ours.image);
     ours.buffer[5] = 77;
+    for (int i = 0; i <= LOGICAL; i++)
+        ours.table[i] = 1;
+    struct shellwaltz_part p = make_part(shape, tabled, &ours);
     theirs = ours;
-    struct shellwaltz_part p = SHELLWALTZ_PART(BLOCKS, SECTORS, LOGICAL, ours.image);
-    if (shape == 1)
-        p.logical = 0;
-    if (shape == 2)
-        p.image_words = WORDS - 1;
     by_the_short_call(call, p, n, &ours);
     p.image = theirs.image;
-    proved(call, p, n, &theirs);
+    if (call == 6 || (call >= 3 && tabled != NO_TABLE))
+        proved_with_table(call, p, n, &theirs);
+    else
+        proved(call, p, n, &theirs);
     if (memcmp(&ours, &theirs, sizeof ours) != 0) {
-        printf("short calls: call %d on image %d, geometry %d, number %u differs\n", call, which, shape, (unsigned)n);
+        printf("short calls: call %d on image %d, geometry %d, table %d, number %u differs\n", call, which, shape, tabled, (unsigned)n);
+        exit(1);
+    }
+    if (call == 6 && tabled == NO_TABLE && ours.given[0] != (shape == 0 ? SHELLWALTZ_BAD_BUFFER : SHELLWALTZ_BAD_GEOMETRY)) {
+        printf("short calls: a build without a table answers %u\n", (unsigned)ours.given[0]);
         exit(1);
     }
     compared++;
@@ -108,14 +154,16 @@ int main(void)
     for (int call = 0; call < CALLS; call++)
         for (int which = 0; which < IMAGES; which++)
             for (int shape = 0; shape < SHAPES; shape++)
-                for (uint32_t n = 0; n < NUMBERS; n++)
-                    compare(call, which, shape, n);
-    if (!answers_seen[0] || !answers_seen[1] || !answers_seen[3] || !answers_seen[4] || !answers_seen[5]) {
+                for (int tabled = 0; tabled < TABLES; tabled++)
+                    for (uint32_t n = 0; n < NUMBERS; n++)
+                        compare(call, which, shape, tabled, n);
+    if (!answers_seen[0] || !answers_seen[1] || !answers_seen[2] || !answers_seen[3] || !answers_seen[4] || !answers_seen[5]) {
         printf("short calls: an answer never came about\n");
         return 1;
     }
     sentences(shellwaltz_meaning, 6);
     sentences(shellwaltz_rule_meaning, 7);
-    printf("short calls: %u calls give and leave what the proved functions do; a sentence for each answer and rule\n", compared);
+    printf("short calls: %u calls give and leave what the proved functions do, with a table and without; a sentence for each answer and rule\n",
+           compared);
     return 0;
 }

@@ -18,7 +18,9 @@ if [ "$(uname -m)" = aarch64 ]; then
     run86() { "$tools/bin/qemu-x86_64" "$@"; }
     build_safe() {
         local call renamed=
-        for call in format check report read write release; do renamed="$renamed -Dshellwaltz_$call=second_$call"; done
+        for call in format check report read write release build_table read_with_table write_with_table release_with_table; do
+            renamed="$renamed -Dshellwaltz_$call=second_$call"
+        done
         cc $safe_flags $renamed -o "$@" second/second.c
     }
     # a program that rt has linked wants the kit's loader and C library

@@ -1,0 +1,148 @@
+/* The calls that are compared, with and without a table, and the sides that they are made on. */
+#ifndef CALLS_H
+#define CALLS_H
+
+#include <stdlib.h>
+#include <string.h>
+
+#include "tables.h"
+
+enum { GUARD = 64, MOST_BUFFER = 2 * SECTOR, GUARD_BYTE = 0x5A };
+enum { SMALL_IMAGE = 8192 }; /* words of an image on which a call takes next to no time */
+
+/* ---- Sides: each has words of its own, with guard words on both ends. */
+
+struct side {
+    const char *name;
+    uint32_t *image, *buffer; /* behind the guard */
+    uint16_t *table;
+    uint32_t answer, count[4], bad_block, bad_rule;
+};
+
+static void fail(const char *why)
+{
+    printf("compare: %s\n", why);
+    exit(1);
+}
+
+static void *make_words(size_t n, size_t size)
+{
+    unsigned char *words = malloc((n + 2 * GUARD) * size);
+    if (!words)
+        fail("no memory");
+    memset(words, GUARD_BYTE, (n + 2 * GUARD) * size);
+    return words + GUARD * size;
+}
+
+/* The guard on the end of n words, where more words could be. */
+static void guard_end(void *words, size_t n, size_t size)
+{
+    memset((unsigned char *)words + n * size, GUARD_BYTE, GUARD * size);
+}
+
+static struct side make_side(const char *name, size_t image_words)
+{
+    return (struct side){.name = name,
+                         .image = make_words(image_words, sizeof(uint32_t)),
+                         .buffer = make_words(MOST_BUFFER, sizeof(uint32_t)),
+                         .table = make_words(MOST_TABLE, sizeof(uint16_t))};
+}
+
+/* ---- Calls */
+
+enum call { FORMAT, CHECK, REPORT, READ, WRITE, RELEASE, BUILD_TABLE, READ_WITH_TABLE, WRITE_WITH_TABLE, RELEASE_WITH_TABLE, CALLS };
+static const char *const names[CALLS] = {"format",      "check",           "report",           "read",              "write", "release",
+                                         "build_table", "read_with_table", "write_with_table", "release_with_table"};
+
+/* The calls that do the same without a table. Of a build that is a check: it looks at the whole image, and leaves it. */
+static const enum call without_table[CALLS] = {
+    [BUILD_TABLE] = CHECK, [READ_WITH_TABLE] = READ, [WRITE_WITH_TABLE] = WRITE, [RELEASE_WITH_TABLE] = RELEASE};
+
+static bool takes_table(enum call c)
+{
+    return c >= BUILD_TABLE;
+}
+
+static bool writes(enum call c)
+{
+    return c == WRITE || c == WRITE_WITH_TABLE;
+}
+
+struct asked {
+    enum call call;
+    struct geometry g;
+    size_t image_words, buffer_words, table_words;
+    uint32_t number;
+    enum table_kind kind;
+};
+
+static void call(const struct layer *layer, struct side *s, struct asked a)
+{
+    uint32_t b = a.g.blocks, p = a.g.sectors, l = a.g.logical, i = a.number, *n = s->count, *bad = &s->bad_block, *rule = &s->bad_rule;
+    uint32_t *image = s->image, *buffer = s->buffer, answer;
+    uint16_t *table = s->table;
+    size_t words = a.image_words, bw = a.buffer_words, tw = a.table_words;
+    switch (a.call) {
+    case FORMAT: answer = layer->format(b, p, l, image, words, n, n + 1); break;
+    case CHECK: answer = layer->check(b, p, l, image, words, bad, rule); break;
+    case REPORT: answer = layer->report(b, p, l, image, words, n, n + 1, n + 2, n + 3, bad, rule); break;
+    case READ: answer = layer->read(b, p, l, image, words, i, buffer, bw, bad, rule); break;
+    case WRITE: answer = layer->write(b, p, l, image, words, i, buffer, bw, n, n + 1, bad, rule); break;
+    case RELEASE: answer = layer->release(b, p, l, image, words, i, n, n + 1, bad, rule); break;
+    case BUILD_TABLE: answer = layer->build_table(b, p, l, image, words, table, tw, bad, rule); break;
+    case READ_WITH_TABLE: answer = layer->read_with_table(b, p, l, image, words, i, buffer, bw, table, tw, bad, rule); break;
+    case WRITE_WITH_TABLE: answer = layer->write_with_table(b, p, l, image, words, i, buffer, bw, table, tw, n, n + 1, bad, rule); break;
+    default: answer = layer->release_with_table(b, p, l, image, words, i, table, tw, n, n + 1, bad, rule); break;
+    }
+    s->answer = answer;
+}
+
+/* With nothing out of its range. */
+static struct asked sound_call(enum call c, struct geometry g)
+{
+    return (struct asked){.call = c, .g = g, .image_words = words_of(g), .buffer_words = SECTOR, .table_words = g.logical};
+}
+
+/* Calls with a table are rarer where a call takes long: each is held against one or two more. */
+static enum call some_name(struct geometry g)
+{
+    static const enum call often[2][13] = {
+        {WRITE, WRITE, WRITE, WRITE, WRITE, WRITE, READ, READ, READ, RELEASE, RELEASE, CHECK, REPORT},
+        {WRITE_WITH_TABLE, WRITE_WITH_TABLE, WRITE_WITH_TABLE, WRITE_WITH_TABLE, WRITE_WITH_TABLE, WRITE_WITH_TABLE, READ_WITH_TABLE,
+         READ_WITH_TABLE, READ_WITH_TABLE, RELEASE_WITH_TABLE, RELEASE_WITH_TABLE, BUILD_TABLE, BUILD_TABLE}};
+    bool with_table = one_in(words_of(g) <= SMALL_IMAGE ? 2 : 6);
+    return one_in(300) ? FORMAT : often[with_table][below(13)];
+}
+
+/* The table that the call is lent: mostly of the length that it asks for, if there can be one. */
+static void choose_table(struct asked *a, struct geometry g)
+{
+    a->kind = some_kind();
+    a->table_words = one_in(20) ? some_length(g.logical) : a->g.logical < MOST_TABLE ? a->g.logical : g.logical;
+}
+
+/* A call on an image of geometry g: mostly as it should be, now and then with one thing out of its range. */
+static struct asked some_call(struct geometry g)
+{
+    static const uint32_t counts[] = {0, 1, 65, 128, 65535, 65536, 65538, 0x80000008u, 0xFFFFFFFFu};
+    struct asked a = sound_call(some_name(g), g);
+    a.number = below(one_in(3) && g.logical > 8 ? 8 : g.logical);
+    switch (below(60)) {
+    case 0: a.g.blocks = counts[below(9)]; break;
+    case 1: a.g.sectors = counts[below(9)]; break;
+    case 2: a.g.logical = counts[below(9)]; break;
+    case 3: a.g.logical = SHELLWALTZ_MOST_LOGICAL(g.blocks, g.sectors) + below(3); break;
+    case 4: a.image_words = below((uint32_t)a.image_words + 1); break;
+    case 5: a.image_words += 1 + below(GUARD); break;
+    case 6: a.buffer_words = below(MOST_BUFFER + 1); break;
+    case 7: a.buffer_words = SECTOR - 1 + 2 * below(2); break;
+    case 8: a.number = g.logical + below(2); break;
+    case 9: a.number = one_in(2) ? ONES : (uint32_t)chance(); break;
+    default: break;
+    }
+    if (takes_table(a.call))
+        choose_table(&a, g);
+    return a;
+}
+
+#endif
