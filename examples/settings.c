@@ -8,7 +8,7 @@ enum { BLOCKS = 4, SECTORS = 8, LOGICAL = 16, SETTINGS = 7 };
 
 /* The mirror of the part. A driver loads it at the start, and carries over to the part what each accepted call changed: docs/USING.md. */
 static uint32_t image[SHELLWALTZ_IMAGE_WORDS(BLOCKS, SECTORS)];
-/* Where each sector is, so that no call has to search for it. */
+/* Where each stored sector is, so that no call has to search for it. */
 static uint16_t table[LOGICAL];
 static const struct shellwaltz_part meter = SHELLWALTZ_PART_WITH_TABLE(BLOCKS, SECTORS, LOGICAL, image, table);
 
