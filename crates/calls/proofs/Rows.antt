@@ -1,5 +1,5 @@
--- The first row that applies, and the number of what is given by it. Assumes nothing.
-use mathlib.Core.Path.{_≡_}
+-- The first row that applies, the number of what is given by it, and that none applies where a call is accepted. Assumes nothing.
+use mathlib.Core.Path.{_≡_, refl, ap}
 use mathlib.Core.Bool.{Bool, true, false, _&&_}
 use mathlib.Core.List.{List, [], _∷_}
 use Prim.Native.Nat.{_<_}
@@ -8,6 +8,7 @@ use lib.Dec.{eqb, ltb}
 use borrow.Author.Tests.{eqb-true, ltb-true}
 use Rattle.ranges.proofs.Tests.{both-pass}
 use Rattle.answers.specs.declared.Answer.{Answer}
+use Rattle.answers.specs.declared.Answer.the-variants.{Accepted}
 use Rattle.answers.specs.Answers.{numberOf}
 use Rattle.calls.specs.Refusals.{Row, firstThatApplies}
 
@@ -35,3 +36,20 @@ first-is (later t f) = rw t (first-is f)
 pub first-number : {rows : List Row} {a : Answer} → FirstIs rows a → numbered rows ≡ true → 0 < numberOf a
 first-number (here {r} {rs} h) t = let parts = numbered-parts r rs t in omega (arith, parts .0, parts .1)
 first-number (later {r} {rs} h f) t = first-number f (numbered-parts r rs t .2)
+
+-- where a call is accepted, no row applies
+abbrev pub NoneApplies : List Row → Type 0
+NoneApplies [] = Unit {0}
+NoneApplies (r ∷ rs) = (r .applies ≡ false) × NoneApplies rs
+
+pub none-applies : (rows : List Row) → firstThatApplies rows ≡ Accepted → numbered rows ≡ true → NoneApplies rows
+none-applies [] e t = tt
+none-applies (r ∷ rs) e t = go (r .applies) refl (λ q. none-applies rs q (numbered-parts r rs t .2))
+  where
+    go : (b : Bool) → r .applies ≡ b → (firstThatApplies rs ≡ Accepted → NoneApplies rs) → NoneApplies (r ∷ rs)
+    go true p ih =
+        absurd
+        (let given : r .refusal ≡ Accepted = rw p at e in
+        let parts = numbered-parts r rs t in
+        omega (arith, ap numberOf given, parts .0, parts .1))
+    go false p ih = (p, ih (rw p at e))

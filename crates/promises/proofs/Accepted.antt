@@ -30,9 +30,9 @@ use Rattle.answers.proofs.Acceptance.{if-accepted}
 use Rattle.calls.specs.Refusals.{oneSector, formatRows, checkRows, readRows, writeRows, releaseRows, formatAnswer, checkAnswer, readAnswer, writeAnswer, releaseAnswer}
 use Rattle.calls.specs.Calls.{writeSteps, releaseSteps}
 use Rattle.calls.proofs.CallLaws.{shaped-left, formed-ready}
+use Rattle.calls.proofs.Rows.{NoneApplies, none-applies}
 use Rattle.tabled.specs.Refusals.{wordForEach, writeRowsWith, releaseRowsWith, writeAnswerWith, releaseAnswerWith}
 use Rattle.tabled.proofs.TableLaws.{write-alike, release-alike}
-use Rattle.promises.proofs.Given.{NoneApplies, none-applies}
 
 module _ (geo : Geometry) (image : Image) where
   -- row 4 does not apply

@@ -48,23 +48,6 @@ number-none (r ∷ rs) t = go (r .applies) (number-none rs (numbered-parts r rs 
 pub given-exactly : (rows : List Row) → numbered rows ≡ true → GivenExactly (firstThatApplies rows) rows
 given-exactly rows t = (number-first rows t, number-none rows t, accepted-number (firstThatApplies rows))
 
--- where a call is accepted, no row applies
-abbrev pub NoneApplies : List Row → Type 0
-NoneApplies [] = Unit {0}
-NoneApplies (r ∷ rs) = (r .applies ≡ false) × NoneApplies rs
-
-pub none-applies : (rows : List Row) → firstThatApplies rows ≡ Accepted → numbered rows ≡ true → NoneApplies rows
-none-applies [] e t = tt
-none-applies (r ∷ rs) e t = go (r .applies) refl (λ q. none-applies rs q (numbered-parts r rs t .2))
-  where
-    go : (b : Bool) → r .applies ≡ b → (firstThatApplies rs ≡ Accepted → NoneApplies rs) → NoneApplies (r ∷ rs)
-    go true p ih =
-        absurd
-        (let given : r .refusal ≡ Accepted = rw p at e in
-        let parts = numbered-parts r rs t in
-        omega (arith, ap numberOf given, parts .0, parts .1))
-    go false p ih = (p, ih (rw p at e))
-
 -- K1: among these rows, one whose refusal has the number 4 is row 4; so that is what is given under this number
 module _ (geo : Geometry) (image : Image) where
   abbrev pub FourIsRow4 : List Row → Type 0

@@ -24,11 +24,12 @@ use Rattle.answers.specs.declared.Answer.the-variants.{Accepted}
 use Rattle.answers.proofs.Acceptance.{accepted?, if-accepted, if-refused}
 use Rattle.calls.specs.Refusals.{formatRows, formatAnswer}
 use Rattle.calls.specs.Calls.{copiedFrom, readBuffer, outcome, writeSteps, releaseSteps}
+use Rattle.calls.proofs.Rows.{NoneApplies, none-applies}
 use Rattle.tabled.specs.Refusals.{buildRows, readRowsWith, writeRowsWith, releaseRowsWith, buildAnswer, readAnswerWith, writeAnswerWith, releaseAnswerWith}
 use Rattle.tabled.specs.Calls.{tableBuilt, readBufferWith, writeStepsWith, writeTable, releaseStepsWith, releaseTable}
 use Rattle.tabled.proofs.TableLaws.{build-checks, read-alike, write-alike, release-alike}
 use Rattle.promises.specs.Tables.{RightWords, RefusalsWithATable, SameWithAnyTable, AnotherLengthIsRefused, RefusedChangesNoTable, RightTablesStayRight, OtherWordsStay, SetWordsAreRight}
-use Rattle.promises.proofs.Given.{NoneApplies, none-applies, given-exactly, names-the-pair, if-either}
+use Rattle.promises.proofs.Given.{given-exactly, names-the-pair, if-either}
 use Rattle.promises.proofs.Accepted.{write-others, write-right, write-sets, release-right, write-too, write-has-words, release-too, release-has-word}
 
 pub right-words : RightWords

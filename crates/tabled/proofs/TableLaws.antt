@@ -1,19 +1,20 @@
 -- K2: where the table has its length, a call that takes one answers as the call without one; where it has not, it gives the refusal of
 -- row 1 or 2. Assumes nothing.
 use mathlib.Core.Path.{_≡_, refl, sym, ap, _∙_}
-use mathlib.Core.Bool.{Bool, true, false, not, cond, _&&_}
+use mathlib.Core.Bool.{Bool, true, false, _&&_}
 use mathlib.Core.List.{List, [], _∷_}
 use mathlib.Core.Logic.{_≢_}
 use Prim.Native.Nat.{ℕ}
-use native.Mathlib.Omega.{arith}
+use borrow.Author.Tests.{not-false}
 use Rattle.geometry.specs.declared.Geometry.{Geometry}
 use Rattle.image.specs.Words.{Image}
 use Rattle.image.specs.WellFormed.{wellFormed}
 use Rattle.tables.specs.Tables.{Table}
 use Rattle.answers.specs.declared.Answer.{Answer}
-use Rattle.answers.specs.declared.Answer.the-variants.{Accepted, BadGeometry, BadBuffer}
 use Rattle.answers.specs.Answers.{numberOf}
-use Rattle.calls.specs.Refusals.{Row, firstThatApplies, oneSector, row1, row2, row3, row4, row5, row6, checkAnswer, readAnswer, writeAnswer, releaseAnswer}
+use Rattle.answers.proofs.Acceptance.{accepted-number}
+use Rattle.calls.proofs.Rows.{NoneApplies, none-applies}
+use Rattle.calls.specs.Refusals.{checkRows, Row, firstThatApplies, oneSector, row1, row2, row3, row4, row5, row6, checkAnswer, readAnswer, writeAnswer, releaseAnswer}
 use Rattle.tabled.specs.Refusals.{wordForEach, tableRows, buildAnswer, readAnswerWith, writeAnswerWith, releaseAnswerWith}
 
 -- the image has its geometry's length, and the table a word for each number
@@ -28,18 +29,10 @@ module _
   where
     -- they pass
     pub lent-well : number ≡ 0 → LentWell geo image table
-    lent-well z = go (row1 geo image .applies) refl (wordForEach geo table) refl (sym (numbered ∙ ap numberOf asked) ∙ z)
-      where
-        go :
-            (x : Bool) →
-            row1 geo image .applies ≡ x →
-            (w : Bool) →
-            wordForEach geo table ≡ w →
-            numberOf (cond x BadGeometry (cond (not w) BadBuffer Accepted)) ≡ 0 →
-            LentWell geo image table
-        go true p w q e = absurd (omega arith)
-        go false p true q e = record { image-fits = p; table-fits = q }
-        go false p false q e = absurd (omega arith)
+    lent-well z =
+        let accepted = sym asked ∙ accepted-number lent .1 (sym numbered ∙ z) in
+        let rows : NoneApplies (tableRows geo image table) = none-applies (tableRows geo image table) accepted refl in
+        record { image-fits = rows .0; table-fits = not-false _ (rows .1 .0) }
 
     -- or one of them refuses, whatever comes after them and whatever else row 2 asks for
     lent-badly :
@@ -98,9 +91,6 @@ module _ (geo : Geometry) (image : Image) (table : Table) (fits : wordForEach ge
 -- an image that passes its check is well formed
 pub check-passes : (geo : Geometry) (image : Image) → numberOf (checkAnswer geo image) ≡ 0 → wellFormed geo image ≡ true
 unfolding checkAnswer
-check-passes geo image e = go (row1 geo image .applies) (wellFormed geo image) refl e
-  where
-    go : (x y : Bool) → wellFormed geo image ≡ y → numberOf (cond x BadGeometry (cond (not y) (row4 geo image .refusal) Accepted)) ≡ 0 → wellFormed geo image ≡ true
-    go true y p z = absurd (omega arith)
-    go false true p z = p
-    go false false p z = absurd (omega arith)
+check-passes geo image e =
+    let rows : NoneApplies (checkRows geo image) = none-applies (checkRows geo image) (accepted-number (checkAnswer geo image) .1 e) refl in
+    not-false _ (rows .1 .0)
