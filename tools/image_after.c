@@ -3,16 +3,17 @@
  *
  *     image_after BLOCKS SECTORS LOGICAL <RECORDS >IMAGE
  *
- * What a record asks for is in docs/FORMAT.md, "The script program". What it answers is not shown here, and a refused call changes no word. */
+ * What a record asks for is in docs/FORMAT.md, "The script program". What it answers is not shown here, and a refused call changes no word. Where
+ * a record of operation 4 sets another LOGICAL, standard error says which one it is at the end. */
 #include <stdio.h>
 
 #include "../include/shellwaltz.h"
 #include "../inspect/little_endian.h"
 #include "../inspect/number.h"
 
-enum { WRITE = 1, RELEASE = 3, RECORD = 12 };
+enum { WRITE = 1, RELEASE = 3, FORMAT = 4, RECORD = 12 };
 
-static void carry_out(const struct shellwaltz_part *part, const unsigned char *record)
+static void carry_out(struct shellwaltz_part *part, const unsigned char *record)
 {
     uint32_t operation = word_at(record), number = word_at(record + 4), buffer[SHELLWALTZ_SECTOR_WORDS];
     for (uint32_t i = 0; i < SHELLWALTZ_SECTOR_WORDS; i++)
@@ -21,6 +22,11 @@ static void carry_out(const struct shellwaltz_part *part, const unsigned char *r
         shellwaltz_part_write(part, number, buffer);
     if (operation == RELEASE)
         shellwaltz_part_release(part, number);
+    if (operation == FORMAT) {
+        struct shellwaltz_part afresh = SHELLWALTZ_PART(part->blocks, part->sectors, number, part->image);
+        if (shellwaltz_part_format(&afresh).answer == SHELLWALTZ_OK)
+            *part = afresh;
+    }
 }
 
 static int leave(const struct shellwaltz_part *part)
@@ -47,5 +53,7 @@ int main(int argc, char **argv)
     }
     while (fread(record, 1, RECORD, stdin) == RECORD)
         carry_out(&part, record);
+    if (part.logical != logical)
+        fprintf(stderr, "image_after: LOGICAL is %u at the end\n", (unsigned)part.logical);
     return leave(&part);
 }

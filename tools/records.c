@@ -3,6 +3,7 @@
  *     write NUMBER FILL      stores a sector of FILL words under NUMBER
  *     read NUMBER
  *     release NUMBER
+ *     format L               formats afresh, with L logical sectors from then on
  *     record OPERATION NUMBER FILL     any three numbers
  *
  * A line each, numbers in decimal or with 0x in hexadecimal; an empty line or one that begins with # says nothing. */
@@ -71,10 +72,12 @@ int main(void)
             record(2, words[1], NULL);
         else if (n == 2 && strcmp(words[0], "release") == 0)
             record(3, words[1], NULL);
+        else if (n == 2 && strcmp(words[0], "format") == 0)
+            record(4, words[1], NULL);
         else if (n == 4 && strcmp(words[0], "record") == 0)
             record(number(words[1]), words[2], words[3]);
         else
-            refuse("write NUMBER FILL, read NUMBER, release NUMBER or record OPERATION NUMBER FILL is wanted");
+            refuse("write NUMBER FILL, read NUMBER, release NUMBER, format L or record OPERATION NUMBER FILL is wanted");
     }
     return fflush(stdout) != 0 || ferror(stdout) != 0;
 }

@@ -2,13 +2,14 @@
 -- outcome, `_`, is read off the clauses, which are its equations by computation. Assumes nothing.
 use mathlib.Core.Path.{refl}
 use mathlib.Core.List.{[], _∷_}
-use Rattle.determined.specs.Contracts.{EveryContract, number, bad-block, bad-rule, format, check, report, read, write, release, build-table, read-with-table, write-with-table, release-with-table, c-format, c-check, c-report, c-read, c-write, c-release, c-build-table, c-read-with-table, c-write-with-table, c-release-with-table, script-geometry, record-of, other, carry-out}
+use Rattle.determined.specs.Contracts.{EveryContract, number, bad-block, bad-rule, format, check, report, read, write, release, build-table, read-with-table, write-with-table, release-with-table, c-format, c-check, c-report, c-read, c-write, c-release, c-build-table, c-read-with-table, c-write-with-table, c-release-with-table, start, record-of, short, carry-out, end, line-text, totals-text}
 use Rattle.determined.proofs.Law.{kept, count, words, left, determined, nothing}
 use Rattle.answers.proofs as answers
 use Rattle.shellwaltz.proofs as calls
 use Rattle.tabled.proofs as tabled
 use Rattle.shellwaltz_c.proofs as in-c
 use Rattle.records.proofs as records
+use Rattle.text.proofs as text
 
 pub every-contract : EveryContract
 every-contract =
@@ -48,8 +49,11 @@ every-contract =
       of-c-read-with-table = determined c-read-with-table (left (kept ∷ kept ∷ kept ∷ kept ∷ kept ∷ words ∷ kept ∷ count ∷ count ∷ [])) _ nothing (λ w c g o. refl) (λ M. in-c.with_table.shellwaltz_read_with_table.Met.met);
       of-c-write-with-table = determined c-write-with-table (left (kept ∷ kept ∷ kept ∷ words ∷ kept ∷ kept ∷ words ∷ count ∷ count ∷ count ∷ count ∷ [])) _ nothing (λ w c g o. refl) (λ M. in-c.with_table.shellwaltz_write_with_table.Met.met);
       of-c-release-with-table = determined c-release-with-table (left (kept ∷ kept ∷ kept ∷ words ∷ kept ∷ words ∷ count ∷ count ∷ count ∷ count ∷ [])) _ nothing (λ w c g o. refl) (λ M. in-c.with_table.shellwaltz_release_with_table.Met.met);
-      of-script-geometry = determined script-geometry (left []) _ nothing (λ w c g o. refl) (λ M. records.script_geometry.Met.met);
+      of-start = determined start (left (words ∷ [])) _ nothing (λ w c g o. refl) (λ M. records.start.Met.met);
       of-record-of = determined record-of (left (kept ∷ [])) _ nothing (λ w c g o. refl) (λ M. records.record_of.Met.met);
-      of-other = determined other (left (kept ∷ kept ∷ [])) _ nothing (λ w c g o. refl) (λ M. records.other.Met.met);
-      of-carry-out = determined carry-out (left (words ∷ kept ∷ [])) _ nothing (λ w c g o. refl) (λ M. records.carry_out.Met.met);
+      of-short = determined short (left []) _ nothing (λ w c g o. refl) (λ M. records.short.Met.met);
+      of-carry-out = determined carry-out (left (words ∷ count ∷ kept ∷ [])) _ nothing (λ w c g o. refl) (λ M. records.carry_out.Met.met);
+      of-end = determined end (left (kept ∷ kept ∷ [])) _ nothing (λ w c g o. refl) (λ M. records.end.Met.met);
+      of-line-text = determined line-text (left (kept ∷ words ∷ [])) _ nothing (λ w c g o. refl) (λ M. text.line_text.Met.met);
+      of-totals-text = determined totals-text (left (kept ∷ words ∷ [])) _ nothing (λ w c g o. refl) (λ M. text.totals_text.Met.met);
     }

@@ -9,6 +9,7 @@ use Rattle.shellwaltz.proofs as calls
 use Rattle.tabled.proofs as tabled
 use Rattle.shellwaltz_c.proofs as in-c
 use Rattle.records.proofs as records
+use Rattle.text.proofs as text
 
 -- ---- what an answer says
 abbrev pub number : Function
@@ -90,18 +91,27 @@ abbrev pub c-release-with-table : Function
 c-release-with-table = record { ended = in-c.with_table.shellwaltz_release_with_table.ended; clauses = λ M. in-c.with_table.shellwaltz_release_with_table.clauses; routine = in-c.with_table.shellwaltz_release_with_table.Symbol.routine }
 
 -- ---- the records of a script
-abbrev pub script-geometry : Function
-script-geometry =
-    record { ended = records.script_geometry.ended; clauses = λ M. records.script_geometry.clauses; routine = records.script_geometry.Symbol.routine }
+abbrev pub start : Function
+start = record { ended = records.start.ended; clauses = λ M. records.start.clauses; routine = records.start.Symbol.routine }
 
 abbrev pub record-of : Function
 record-of = record { ended = records.record_of.ended; clauses = λ M. records.record_of.clauses; routine = records.record_of.Symbol.routine }
 
-abbrev pub other : Function
-other = record { ended = records.other.ended; clauses = λ M. records.other.clauses; routine = records.other.Symbol.routine }
+abbrev pub short : Function
+short = record { ended = records.short.ended; clauses = λ M. records.short.clauses; routine = records.short.Symbol.routine }
 
 abbrev pub carry-out : Function
 carry-out = record { ended = records.carry_out.ended; clauses = λ M. records.carry_out.clauses; routine = records.carry_out.Symbol.routine }
+
+abbrev pub end : Function
+end = record { ended = records.end.ended; clauses = λ M. records.end.clauses; routine = records.end.Symbol.routine }
+
+-- ---- what a script prints
+abbrev pub line-text : Function
+line-text = record { ended = text.line_text.ended; clauses = λ M. text.line_text.clauses; routine = text.line_text.Symbol.routine }
+
+abbrev pub totals-text : Function
+totals-text = record { ended = text.totals_text.ended; clauses = λ M. text.totals_text.clauses; routine = text.totals_text.Symbol.routine }
 
 pub record EveryContract : Type 2 where
   pub of-number : Determined number
@@ -127,7 +137,10 @@ pub record EveryContract : Type 2 where
   pub of-c-read-with-table : Determined c-read-with-table
   pub of-c-write-with-table : Determined c-write-with-table
   pub of-c-release-with-table : Determined c-release-with-table
-  pub of-script-geometry : Determined script-geometry
+  pub of-start : Determined start
   pub of-record-of : Determined record-of
-  pub of-other : Determined other
+  pub of-short : Determined short
   pub of-carry-out : Determined carry-out
+  pub of-end : Determined end
+  pub of-line-text : Determined line-text
+  pub of-totals-text : Determined totals-text

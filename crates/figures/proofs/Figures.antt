@@ -1,4 +1,4 @@
--- P1 to P9 hold: the definitions are computed.
+-- P1 to P9, T1 to T4 and S1 to S3 hold: the definitions are computed.
 use Rattle.ranges.specs.Range.{allBelow, anyBelow, sumBelow, listBelow, bestBelow}
 use Rattle.bits.specs.Word.{bit, cleared, shared}
 use Rattle.geometry.specs.Geometry.{roundedUp, g, withinLimits}
@@ -16,7 +16,8 @@ use Rattle.calls.specs.Calls.{countsZeroed, fresh, formatted, readBuffer, write
 use Rattle.tabled.specs.Refusals.{writeAnswerWith, releaseAnswerWith}
 use Rattle.tabled.specs.Calls.{writeStepsWith, writeTable, releaseTable}
 use Rattle.promises.specs.Runs.{called, ran}
-use Rattle.figures.specs.Figures.{P1-to-P9, T1-to-T4}
+use Rattle.records.specs.Records.{lineOf, logicalAfter}
+use Rattle.figures.specs.Figures.{P1-to-P9, T1-to-T4, S1-to-S3}
 
 pub p1-to-p9 : P1-to-P9
 unfolding allBelow anyBelow sumBelow listBelow bestBelow bit cleared shared roundedUp g withinLimits eraseCount leastMapped greatestMapped freeMap entry contents isComplete slotOf slot find blank full lowestFree lowestOpen leastWornBlank victim R1 R2 R3 R4 R5 R6 R7 brokenRule soundBlock sound wellFormed erasedBlock applied run wordsIn erasuresIn leastLive greatestLive closesBlock fillsSlot placing releasing filling mustReclaim copying reclaiming reclaimingFirst writing formatAnswer checkAnswer readAnswer writeAnswer releaseAnswer countsZeroed fresh formatted readBuffer writeSteps releaseSteps called ran
@@ -25,3 +26,7 @@ p1-to-p9 = tt
 pub t1-to-t4 : T1-to-T4
 unfolding allBelow anyBelow sumBelow listBelow bestBelow bit cleared shared roundedUp g withinLimits eraseCount leastMapped greatestMapped freeMap entry contents isComplete slotOf slot find blank full lowestFree lowestOpen leastWornBlank victim R1 R2 R3 R4 R5 R6 R7 brokenRule soundBlock sound wellFormed erasedBlock applied run wordsIn erasuresIn leastLive greatestLive closesBlock fillsSlot placing releasing filling mustReclaim copying reclaiming reclaimingFirst writing formatAnswer checkAnswer readAnswer writeAnswer releaseAnswer countsZeroed fresh formatted readBuffer writeSteps releaseSteps rightTable tableCopied tableReclaimed tableFilled tableReclaimedFirst tableWritten tableReleased writeAnswerWith releaseAnswerWith writeStepsWith writeTable releaseTable
 t1-to-t4 = tt
+
+pub s1-to-s3 : S1-to-S3
+unfolding roundedUp g withinLimits formatAnswer readAnswer writeAnswer releaseAnswer lineOf logicalAfter
+s1-to-s3 = tt

@@ -1,5 +1,5 @@
 -- FORMAT.md, Figures: P1 to P9 as one table, each row what the definitions give beside what the page prints, and one statement of them all;
--- and likewise T1 to T4, of the lookup table (K2).
+-- and likewise T1 to T4, of the lookup table (K2), and S1 to S3, of the script program (K3).
 use mathlib.Core.Bool.{Bool, true, _&&_}
 use mathlib.Core.List.{List, [], _∷_}
 use Prim.Native.Nat.{ℕ, _+_, _-_, _*_}
@@ -18,6 +18,8 @@ use Rattle.calls.specs.Refusals.{formatAnswer}
 use Rattle.calls.specs.Calls.{fresh, writeOutcome, written, released}
 use Rattle.tabled.specs.Calls.{writeOutcomeWith, writeTable, releaseTable}
 use Rattle.promises.specs.Runs.{Call, Write, ran, started}
+use Rattle.records.specs.declared.Record.{Record}
+use Rattle.records.specs.Records.{scriptGeometry, defaultLogical, lineOf, logicalAfter}
 
 -- a figure: what the definitions give, and what the page prints
 pub record Figure : Type 0 where
@@ -148,3 +150,44 @@ tableFigures =
 -- T1 to T4
 abbrev pub T1-to-T4 : Type 0
 T1-to-T4 = T (allMatch tableFigures)
+
+-- the answer of a record, and the L after it, in a script that has the default L. None of these looks at the image beyond its length.
+abbrev pub recordFor : ℕ → ℕ → Record
+recordFor operation number = record { operation = operation; number = number; fill = 0 }
+
+abbrev pub answerOf : ℕ → ℕ → ℕ
+answerOf operation number = lineOf (replicate (imageLength (scriptGeometry defaultLogical)) ones) defaultLogical (recordFor operation number) .answer
+
+abbrev pub logicalOf : ℕ → ℕ → ℕ
+logicalOf operation number = logicalAfter (replicate (imageLength (scriptGeometry defaultLogical)) ones) defaultLogical (recordFor operation number)
+
+abbrev pub scriptFigures : List Figure
+scriptFigures =
+    let default = scriptGeometry defaultLogical in
+    -- S1: what a script starts with
+    defaultLogical is 70
+    ∷ answered 8 16 defaultLogical is 0
+    ∷ d default is 15
+    ∷ g default is 5
+    ∷ (133 * (d default - g default) + 136) is 1466
+    -- S2: a write, a read and a release of a number that is not below L
+    ∷ answerOf 1 70 is 3
+    ∷ answerOf 2 70 is 3
+    ∷ answerOf 3 70 is 3
+    ∷ answerOf 1 89 is 3
+    -- S3: operation 4, on both sides of the limits of L
+    ∷ answerOf 4 0 is 1
+    ∷ logicalOf 4 0 is 70
+    ∷ answerOf 4 1 is 0
+    ∷ logicalOf 4 1 is 1
+    ∷ answerOf 4 104 is 0
+    ∷ logicalOf 4 104 is 104
+    ∷ answerOf 4 105 is 1
+    ∷ logicalOf 4 105 is 70
+    ∷ answerOf 4 0xFFFFFFFF is 1
+    ∷ logicalOf 4 0xFFFFFFFF is 70
+    ∷ []
+
+-- S1 to S3
+abbrev pub S1-to-S3 : Type 0
+S1-to-S3 = T (allMatch scriptFigures)

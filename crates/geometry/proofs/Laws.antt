@@ -11,7 +11,7 @@ use native.Mathlib.Nat.{
   lt-of-not-le,
 }
 use native.Mathlib.Omega.{arith}
-use borrow.Author.Tests.{lt-leb}
+use borrow.Author.Tests.{lt-leb, le-leb, lt-ltb}
 use Rattle.geometry.specs.declared.Geometry.{Geometry}
 use Rattle.geometry.specs.Geometry.{
   roundedUp,
@@ -53,6 +53,19 @@ limits-fail geo fails = go (withinLimits geo) refl
     go : (t : Bool) → withinLimits geo ≡ t → t ≡ false
     go true e = absurd (fails (limits-hold geo e))
     go false e = refl
+
+-- and where the limits hold, the test passes
+pub limits-pass : (geo : Geometry) → Limits geo → withinLimits geo ≡ true
+unfolding withinLimits
+limits-pass geo within =
+    rw (
+      le-leb _ _ (within .blocks-low),
+      le-leb _ _ (within .blocks-high),
+      le-leb _ _ (within .sectors-low),
+      le-leb _ _ (within .sectors-high),
+      le-leb _ _ (within .logical-low),
+      lt-ltb _ _ (within .logical-high),
+    )
 
 -- blocks times what one of them has, slots or words, does not wrap, whatever the three numbers are
 pub blocks-fit : (a b : ℕ) → a < 2 ^ 32 → b < 2 ^ 23 → a * b < 2 ^ 64

@@ -6,8 +6,10 @@ use mathlib.Core.Option.{some, none}
 use Prim.Native.Nat.{ℕ}
 use native.Mathlib.Omega.{arith}
 use lib.ListN.{length}
+use borrow.Author.Tests.{eq-eqb}
 use Rattle.geometry.specs.declared.Geometry.{Geometry}
 use Rattle.geometry.specs.Places.{place}
+use Rattle.geometry.proofs.Laws.{limits-pass}
 use Rattle.image.specs.declared.Found.{Found}
 use Rattle.image.specs.declared.Found.the-variants.{At, Nothing}
 use Rattle.image.specs.Words.{Image, contents}
@@ -25,9 +27,11 @@ use Rattle.answers.specs.declared.Answer.the-variants.{Accepted}
 use Rattle.answers.proofs.Acceptance.{if-accepted, if-refused, accepted?}
 use Rattle.calls.specs.Refusals.{checkAnswer, readAnswer, writeAnswer, releaseAnswer}
 use Rattle.calls.specs.Calls.{fresh, formatted, totalsOf, noTotals, reported, readBuffer, writeSteps, releaseSteps}
-use Rattle.promises.specs.Properties.{TheOneSlot, FormatMakesAFreshImage, ReportAddsUp, OthersReadAsBefore, UnusedWordsAreNotProgrammed, PlacingCosts, WearAndFreeSlots}
+use Rattle.promises.specs.Runs.{ran, started}
+use Rattle.promises.specs.Properties.{TheOneSlot, FormatMakesAFreshImage, RunsStayWellFormed, ReportAddsUp, OthersReadAsBefore, UnusedWordsAreNotProgrammed, PlacingCosts, WearAndFreeSlots}
 use Rattle.promises.proofs.Accepted.{check-accepted, format-accepted, write-accepted, write-steps, write-wrote, release-accepted, release-steps, release-blank, release-released}
-use Rattle.promises.proofs.Fresh.{fresh-formed, fresh-map, fresh-frees, fresh-worn}
+use Rattle.promises.proofs.Fresh.{fresh-ready, fresh-blank, fresh-formed, fresh-map, fresh-frees, fresh-worn}
+use Rattle.promises.proofs.Running.{Good, runs}
 use Rattle.calls.proofs.CallLaws.{formed-ready}
 
 pub the-one-slot : TheOneSlot
@@ -41,6 +45,27 @@ format-makes-a-fresh-image geo image accepted =
     let within = format-accepted geo image accepted .limits in
     rw (if-accepted (fresh geo) image accepted)
     (fresh-formed geo within, fresh-map geo within, fresh-frees geo within, fresh-worn geo within)
+
+-- a good image is checked
+good-checked : (geo : Geometry) (image : Image) → Good geo image → checkAnswer geo image ≡ Accepted
+unfolding checkAnswer
+good-checked geo image good =
+    let shaped = good .ready .shaped in
+    rw (limits-pass geo (shaped .limits), eq-eqb _ _ (shaped .long), facts-formed geo image (good .ready .sound) (good .spare))
+
+pub runs-stay-well-formed : RunsStayWellFormed
+unfolding formatted
+runs-stay-well-formed geo image calls handed = (
+  λ accepted.
+      let within = format-accepted geo image accepted .limits in
+      let good = runs geo calls (started (fresh geo)) (record { ready = fresh-ready geo within; spare = fresh-blank geo within }) handed .good in
+      rw (if-accepted (fresh geo) image accepted) (good-checked geo (ran geo (started (fresh geo)) calls .image) good),
+  λ checked words.
+      let start = check-accepted geo image checked in
+      let formed = formed-ready geo image (start .0) words (start .1) in
+      let good = runs geo calls (started image) (record { ready = formed .0; spare = formed .1 }) handed .good in
+      good-checked geo (ran geo (started image) calls .image) good,
+)
 
 pub report-adds-up : ReportAddsUp
 unfolding reported

@@ -162,8 +162,9 @@ module _ (geo : Geometry) where
             refl
             (ap (λ (ss : List Step). s .erasures + erasuresIn ss) none ∙ omega arith)
 
-  -- how a run from s to t stands: k + 1 erasures, the wear, and that nothing is taken back
+  -- how a run from s to t stands: k + 1 erasures, the wear, that nothing is taken back, and that the image is still good
   pub record Ran (s t : State) : Type 0 where
+    pub good : Good geo (t .image)
     pub bound : (k : ℕ) → t .erasures ≡ s .erasures + suc k → s .writes + freeIn geo (s .image) + g geo * k + 1 ≤ t .writes + d geo
     pub worn : wornIn geo (t .image) + s .erasures ≡ wornIn geo (s .image) + t .erasures
     pub more-erasures : s .erasures ≤ t .erasures
@@ -173,6 +174,7 @@ module _ (geo : Geometry) where
   joined : (s m t : State) → Step-of s m → Ran m t → Ran s t
   joined s m t st r =
       record {
+        good = r .good;
         bound = λ k e.
             let law = paid-before {k = k} (t .writes - m .writes) (t .erasures - m .erasures) (st .paid)
             (λ j q. omega (arith, r .bound j (omega (arith, r .more-erasures)), r .more-writes))
@@ -190,7 +192,7 @@ module _ (geo : Geometry) where
       Ran s (ran geo s calls)
   unfolding ran called writeSteps releaseSteps writeStepsWith releaseStepsWith
   runs [] s good handed =
-      record { bound = λ k e. absurd (omega arith); worn = refl; more-erasures = omega arith; more-writes = omega arith }
+      record { good = good; bound = λ k e. absurd (omega arith); worn = refl; more-erasures = omega arith; more-writes = omega arith }
   runs (Check ∷ cs) s good handed = runs cs s good handed
   runs (Report ∷ cs) s good handed = runs cs s good handed
   runs (Read n buffer ∷ cs) s good handed = runs cs s good handed

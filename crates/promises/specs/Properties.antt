@@ -1,5 +1,5 @@
--- What else the definitions promise, as statements: the map is well defined, what a format makes, what a report adds up to, what a placing
--- costs and what a write does to free slots and wear. proofs/Properties.antt proves each under the name in small letters.
+-- What else the definitions promise, as statements: the map is well defined, what a format makes, that a run leaves the image well formed, what a
+-- report adds up to, what a placing costs and what a write does to free slots and wear. proofs/Properties.antt proves each under the name in small letters.
 use mathlib.Core.Path.{_≡_}
 use mathlib.Core.Logic.{_≢_}
 use mathlib.Core.List.{List}
@@ -20,6 +20,7 @@ use Rattle.flash.specs.Placing.{fillsSlot, placing}
 use Rattle.answers.specs.declared.Answer.the-variants.{Accepted}
 use Rattle.calls.specs.Refusals.{formatAnswer, checkAnswer, readAnswer, writeAnswer, releaseAnswer}
 use Rattle.calls.specs.Calls.{formatted, reported, readBuffer, writeSteps, releaseSteps, writeOutcome, written, releaseOutcome, released}
+use Rattle.promises.specs.Runs.{Call, OfWords, ran, started}
 
 -- The map is well defined: on a well-formed image at most one slot is live for a number, and the map gives its contents.
 abbrev pub TheOneSlot : Type 0
@@ -42,6 +43,14 @@ FormatMakesAFreshImage =
     × ((n : ℕ) → mapOf geo (formatted geo image) n ≡ none)
     × (sumBelow (geo .blocks) (freeSlots geo (formatted geo image)) ≡ geo .blocks * d geo)
     × (sumBelow (geo .blocks) (eraseCount geo (formatted geo image)) ≡ 0)
+
+-- After a format and any run of calls a check accepts the image. So it does after any run from an image that it accepts.
+abbrev pub RunsStayWellFormed : Type 0
+RunsStayWellFormed =
+    (geo : Geometry) (image : Image) (calls : List Call) →
+    OfWords calls →
+    (formatAnswer geo image ≡ Accepted → checkAnswer geo (ran geo (started (formatted geo image)) calls .image) ≡ Accepted)
+    × (checkAnswer geo image ≡ Accepted → Words32 image → checkAnswer geo (ran geo (started image) calls .image) ≡ Accepted)
 
 -- A report's mapped, free and dead slots add up to B·d, and mapped is at most L.
 abbrev pub ReportAddsUp : Type 0

@@ -1,10 +1,14 @@
-// A record of a script: what its bytes say, and what it does to the image. The program `script` reads records and prints their lines.
+// A script's records: what the bytes of one say, and what it does to the script's image and to its L, the number of logical sectors. The program `script`
+// reads records and prints their lines.
 ghost use mathlib.Core.Path.{_≡_};
 ghost use Prim.Native.Nat.{_+_, _≤_};
 ghost use Rattle.geometry.specs.Geometry.{filled};
-ghost use Rattle.calls.specs.Calls.{written, released};
-ghost use Rattle.records.specs.Records.{scriptGeometry, littleEndian, numberAt, recordOf, outcomeLine, writeLine, readLine, releaseLine, otherLine, lineOf, imageAfter};
+ghost use Rattle.answers.specs.Answers.{ifAccepted};
+ghost use Rattle.calls.specs.Calls.{formatted, written, released};
+ghost use Rattle.records.specs.Records.{scriptGeometry, defaultLogical, startedImage, endTotals, littleEndian, numberAt, recordOf, outcomeLine, writeLine, readLine, releaseLine, formatLine, otherLine, shortLine, lineOf, imageAfter, logicalFormatted, logicalAfter};
+use answers::Answer;
 use calls::Outcome;
+use calls::Totals;
 use geometry::Geometry;
 
 // The three numbers of a record.
@@ -24,15 +28,32 @@ pub struct Line {
     pub first: u32,
 }
 
-// The geometry of every script.
-pub fn script_geometry() -> Geometry
-    ensures { λ r. ⌜ r ≡ scriptGeometry ⌝ }
+// The geometry of a script whose L is `logical`.
+fn script_geometry(logical: u32) -> Geometry
+    ensures { λ r. ⌜ r ≡ scriptGeometry logical ⌝ }
 {
     Geometry {
         blocks: 8,
         sectors: 16,
-        logical: 90,
+        logical,
     }
+}
+
+// Makes the image that a script starts from, and gives the L that it starts with (K3).
+pub fn start(image: &mut [u32]) -> u32
+    ensures { λ r. ⌜ r ≡ defaultLogical ⌝ }
+    ensures { λ _. ⌜ now (image .exit) ≡ startedImage (now (image .entry)) ⌝ }
+{
+    let logical = 70;
+    shellwaltz::format(image, script_geometry(logical));
+    logical
+}
+
+// The totals of the image that a script ends with.
+pub fn end(image: &[u32], logical: u32) -> Totals
+    ensures { λ r. ⌜ r ≡ endTotals (now (image .entry)) logical ⌝ }
+{
+    shellwaltz::report(image, script_geometry(logical))
 }
 
 // The number of four bytes, the least significant first.
@@ -61,8 +82,8 @@ pub fn record_of(bytes: &[u8; 12]) -> Record
     }
 }
 
-// The line of a record that is no write, read or release.
-pub fn other(number: u32, answer: u32) -> Line
+// The line of a record that is none of the four operations.
+fn other(number: u32, answer: u32) -> Line
     ensures { λ r. ⌜ r ≡ otherLine number answer ⌝ }
 {
     Line {
@@ -75,7 +96,14 @@ pub fn other(number: u32, answer: u32) -> Line
     }
 }
 
-// The line of a write or a release.
+// The line of a last record that is cut short.
+pub fn short() -> Line
+    ensures { λ r. ⌜ r ≡ shortLine ⌝ }
+{
+    other(0, 8)
+}
+
+// The line of a write, a release or a format.
 fn outcome_line(letter: u8, number: u32, done: Outcome) -> Line
     ensures { λ l. ⌜ l ≡ outcomeLine letter number done ⌝ }
 {
@@ -90,20 +118,20 @@ fn outcome_line(letter: u8, number: u32, done: Outcome) -> Line
     }
 }
 
-fn write(image: &mut [u32], number: u32, fill: u32) -> Line
-    ensures { λ l. ⌜ l ≡ writeLine (now (image .entry)) number fill ⌝ }
-    ensures { λ _. ⌜ now (image .exit) ≡ written scriptGeometry (now (image .entry)) number (filled fill) ⌝ }
+fn write(image: &mut [u32], logical: u32, number: u32, fill: u32) -> Line
+    ensures { λ l. ⌜ l ≡ writeLine (now (image .entry)) logical number fill ⌝ }
+    ensures { λ _. ⌜ now (image .exit) ≡ written (scriptGeometry logical) (now (image .entry)) number (filled fill) ⌝ }
 {
     let buffer = [fill; 128];
-    let done = shellwaltz::write(image, script_geometry(), number, &buffer);
+    let done = shellwaltz::write(image, script_geometry(logical), number, &buffer);
     outcome_line(b'W', number, done)
 }
 
-fn read(image: &[u32], number: u32) -> Line
-    ensures { λ l. ⌜ l ≡ readLine (now (image .entry)) number ⌝ }
+fn read(image: &[u32], logical: u32, number: u32) -> Line
+    ensures { λ l. ⌜ l ≡ readLine (now (image .entry)) logical number ⌝ }
 {
     let mut buffer = [0u32; 128];
-    let answer = shellwaltz::read(image, script_geometry(), number, &mut buffer);
+    let answer = shellwaltz::read(image, script_geometry(logical), number, &mut buffer);
     Line {
         letter: b'R',
         number,
@@ -114,27 +142,54 @@ fn read(image: &[u32], number: u32) -> Line
     }
 }
 
-fn release(image: &mut [u32], number: u32) -> Line
-    ensures { λ l. ⌜ l ≡ releaseLine (now (image .entry)) number ⌝ }
-    ensures { λ _. ⌜ now (image .exit) ≡ released scriptGeometry (now (image .entry)) number ⌝ }
+fn release(image: &mut [u32], logical: u32, number: u32) -> Line
+    ensures { λ l. ⌜ l ≡ releaseLine (now (image .entry)) logical number ⌝ }
+    ensures { λ _. ⌜ now (image .exit) ≡ released (scriptGeometry logical) (now (image .entry)) number ⌝ }
 {
-    let done = shellwaltz::release(image, script_geometry(), number);
+    let done = shellwaltz::release(image, script_geometry(logical), number);
     outcome_line(b'D', number, done)
 }
 
-// Carries a record out on the image and gives its line.
-pub fn carry_out(image: &mut [u32], r: Record) -> Line
-    ensures { λ l. ⌜ l ≡ lineOf (now (image .entry)) r ⌝ }
-    ensures { λ _. ⌜ now (image .exit) ≡ imageAfter (now (image .entry)) r ⌝ }
+// One of two numbers: the first where a call was accepted.
+fn if_accepted(answer: Answer, new: u32, old: u32) -> u32
+    ensures { λ r. ⌜ r ≡ ifAccepted answer new old ⌝ }
+{
+    if answers::number(answer) == 0 {
+        return new;
+    }
+    old
+}
+
+// Formats afresh with `number` as L (K3).
+fn format(image: &mut [u32], logical: &mut u32, number: u32) -> Line
+    ensures { λ l. ⌜ l ≡ formatLine (now (image .entry)) number ⌝ }
+    ensures { λ _. ⌜ now (image .exit) ≡ formatted (scriptGeometry number) (now (image .entry)) ⌝ }
+    ensures { λ _. ⌜ now (logical .exit) ≡ logicalFormatted (now (image .entry)) (now (logical .entry)) number ⌝ }
+{
+    let old = *logical;
+    let done = shellwaltz::format(image, script_geometry(number));
+    let answer = done.answer;
+    *logical = if_accepted(answer, number, old);
+    outcome_line(b'L', number, done)
+}
+
+// Carries a record out on the image with the script's L, and gives its line.
+pub fn carry_out(image: &mut [u32], logical: &mut u32, r: Record) -> Line
+    ensures { λ l. ⌜ l ≡ lineOf (now (image .entry)) (now (logical .entry)) r ⌝ }
+    ensures { λ _. ⌜ now (image .exit) ≡ imageAfter (now (image .entry)) (now (logical .entry)) r ⌝ }
+    ensures { λ _. ⌜ now (logical .exit) ≡ logicalAfter (now (image .entry)) (now (logical .entry)) r ⌝ }
 {
     if r.operation == 1 {
-        return write(image, r.number, r.fill);
+        return write(image, *logical, r.number, r.fill);
     }
     if r.operation == 2 {
-        return read(image, r.number);
+        return read(image, *logical, r.number);
     }
     if r.operation == 3 {
-        return release(image, r.number);
+        return release(image, *logical, r.number);
+    }
+    if r.operation == 4 {
+        return format(image, logical, r.number);
     }
     other(r.number, 7)
 }

@@ -15,8 +15,8 @@ read-requires c κs = search needs
 number-requires : tie.Need-number-requires
 number-requires c κs = search needs
 
-array-read-t11 : tie.Need-array-read-t11
-array-read-t11 c = search needs
+array-read-t12 : tie.Need-array-read-t12
+array-read-t12 c = search needs
 
 returns : tie.Need-returns
 returns c =
@@ -32,5 +32,5 @@ read-spec =
     slice-aggregate-read
     read-requires
     number-requires
-    array-read-t11
+    array-read-t12
     returns)

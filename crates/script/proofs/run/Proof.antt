@@ -6,10 +6,10 @@ use Rattle.script.proofs.run.Statement.{statement}
 use Rattle.script.proofs.run.Tie as tie
 
 abbrev Inv-loop : tie.InvT-loop
-Inv-loop image₀ turns₀ image turns = length image ≡ length image₀
+Inv-loop image₀ logical₀ turns₀ image logical turns = length image ≡ length image₀
 
 abbrev μ-loop : tie.MeasureT-loop
-μ-loop image₀ turns₀ image turns = turns
+μ-loop image₀ logical₀ turns₀ image logical turns = turns
 
 loop-holds : tie.Need-loop-holds Inv-loop μ-loop
 loop-holds c = search needs

@@ -1,0 +1,36 @@
+-- `script::print_totals` is safe: the line is within its buffer.
+use borrow.Author.Needs.{needs}
+use lib.ListN.{replicate}
+use Rattle.text.specs.Lines.{totalsText}
+use Rattle.text.proofs.Lines.{within}
+use Rattle.script.proofs.print_totals.Statement.{statement}
+use Rattle.script.proofs.print_totals.Tie as tie
+
+end-requires : tie.Need-end-requires
+end-requires c κs = search needs
+
+totals-text-requires : tie.Need-totals-text-requires
+totals-text-requires c κs = search needs
+
+array-share-prefix-out : tie.Need-array-share-prefix-out
+array-share-prefix-out c = within (totalsText (c .before .before .end .result)) (replicate 57 0) (c .totals-text .ensures .0) (c .totals-text .ensures .1) .0
+
+slice-aggregate-write-all : tie.Need-slice-aggregate-write-all
+slice-aggregate-write-all c = within (totalsText (c .before .before .before .end .result)) (replicate 57 0) (c .before .totals-text .ensures .0) (c .before .totals-text .ensures .1) .1
+
+write-all-requires : tie.Need-write-all-requires
+write-all-requires c κs = search needs
+
+returns : tie.Need-returns
+returns c = search needs
+
+pub print-totals-spec : {M : Type 1} → statement M
+print-totals-spec =
+    tie.close
+    (tie.spec
+    end-requires
+    totals-text-requires
+    array-share-prefix-out
+    slice-aggregate-write-all
+    write-all-requires
+    returns)

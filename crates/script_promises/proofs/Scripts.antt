@@ -1,0 +1,222 @@
+-- The statements of specs/Scripts.antt: the records since the last accepted operation 4 are a run of calls after a format, of which demand 3 holds. Assumes
+-- nothing.
+use mathlib.Core.Path.{_≡_, refl, sym, ap, _∙_}
+use mathlib.Core.Bool.{Bool, true, false, cond, _&&_}
+use mathlib.Core.Logic.{_≢_}
+use mathlib.Core.List.{List, [], _∷_, _++_}
+use Prim.Native.Nat.{ℕ, zero, suc, _+_, _^_, _<_}
+use native.Mathlib.Omega.{arith}
+use borrow.Author.Tests.{eq-eqb, ne-eqb}
+use lib.Dec.{eqb}
+use lib.ListN.{length, getD, replicate}
+use Rattle.ranges.specs.Range.{one-if}
+use Rattle.geometry.specs.declared.Geometry.{Geometry}
+use Rattle.geometry.specs.Geometry.{sectorWords, filled, imageLength, withinLimits}
+use Rattle.image.specs.Words.{Image, Words32}
+use Rattle.answers.specs.declared.Answer.{Answer}
+use Rattle.answers.specs.declared.Answer.the-variants.{Accepted, BadGeometry}
+use Rattle.answers.specs.Answers.{numberOf, ifAccepted}
+use Rattle.answers.proofs.Acceptance.{accepted-number, if-accepted, if-refused, accepted?}
+use Rattle.calls.specs.Refusals.{row1, formatAnswer, checkAnswer, writeAnswer}
+use Rattle.calls.specs.Calls.{fresh, formatted, written, released, totalsOf, noTotals, reported}
+use Rattle.promises.specs.Runs.{Call, Check, Report, Read, Write, Release, Build, ReadWith, WriteWith, ReleaseWith, State, called, ran, started}
+use Rattle.promises.specs.Runs as runs
+use Rattle.promises.proofs.Demands.{refused-changes-nothing, run-bound}
+use Rattle.promises.proofs.Properties.{runs-stay-well-formed}
+use Rattle.records.specs.declared.Line.{Line}
+use Rattle.records.specs.declared.Record.{Record}
+use Rattle.records.specs.Records.{scriptGeometry, defaultLogical, startedImage, writeLine, readLine, releaseLine, formatLine, otherLine, lineOf, imageAfter, logicalFormatted, logicalAfter}
+use Rattle.script_promises.specs.Scripts.{Script, startOf, after, afterAll, linesOf, startsAnew, since, writesIn, erasuresIn, OfWords, ScriptRunBound, OperationFour}
+
+-- ---- one more at the end: of a run, of its buffers, and of what lines count
+
+ran-on : (geo : Geometry) (s : State) (cs : List Call) (c : Call) → ran geo s (cs ++ (c ∷ [])) ≡ called geo (ran geo s cs) c
+unfolding ran
+ran-on geo s [] c = refl
+ran-on geo s (x ∷ cs) c = ran-on geo (called geo s x) cs c
+
+words-on : (cs ds : List Call) → runs.OfWords cs → runs.OfWords ds → runs.OfWords (cs ++ ds)
+words-on [] ds w v = v
+words-on (Check ∷ cs) ds w v = words-on cs ds w v
+words-on (Report ∷ cs) ds w v = words-on cs ds w v
+words-on (Read n buffer ∷ cs) ds w v = words-on cs ds w v
+words-on (Write n buffer ∷ cs) ds w v = (w .0, words-on cs ds (w .1) v)
+words-on (Release n ∷ cs) ds w v = words-on cs ds w v
+words-on (Build table ∷ cs) ds w v = words-on cs ds w v
+words-on (ReadWith n buffer table ∷ cs) ds w v = words-on cs ds w v
+words-on (WriteWith n buffer table ∷ cs) ds w v = (w .0, words-on cs ds (w .1) v)
+words-on (ReleaseWith n table ∷ cs) ds w v = words-on cs ds w v
+
+writes-on : (ls : List Line) (l : Line) → writesIn (ls ++ (l ∷ [])) ≡ writesIn ls + one-if (eqb (l .letter) 87 && eqb (l .answer) 0)
+unfolding writesIn
+writes-on [] l = omega arith
+writes-on (x ∷ ls) l = ap (one-if (eqb (x .letter) 87 && eqb (x .answer) 0) +_) (writes-on ls l) ∙ omega arith
+
+erasures-on : (ls : List Line) (l : Line) → erasuresIn (ls ++ (l ∷ [])) ≡ erasuresIn ls + l .erasures
+unfolding erasuresIn
+erasures-on [] l = omega arith
+erasures-on (x ∷ ls) l = ap (x .erasures +_) (erasures-on ls l) ∙ omega arith
+
+-- an accepted call counts for one
+counted : (a : Answer) → one-if (eqb (numberOf a) 0) ≡ ifAccepted a 1 0
+counted a = go (accepted? a)
+  where
+    go : Dec (a ≡ Accepted) → one-if (eqb (numberOf a) 0) ≡ ifAccepted a 1 0
+    go (yes e) = rw e
+    go (no n) = rw (ne-eqb (numberOf a) 0 (λ z. n (accepted-number a .1 z)), if-refused {A = ℕ} a 1 0 n)
+
+-- two states of a run with one image
+same-counts : {image : Image} {w w' e e' : ℕ} → w ≡ w' → e ≡ e' → _≡_ {A = State} (record { image = image; writes = w; erasures = e }) (record { image = image; writes = w'; erasures = e' })
+same-counts p q = rw (p, q)
+
+-- a buffer of fill words is of 32-bit words
+filled-words : (k fill : ℕ) → fill < 2 ^ 32 → Words32 (replicate k fill)
+filled-words k fill small = record { small = go k }
+  where
+    go : (m p : ℕ) → getD (replicate m fill) p 0 < 2 ^ 32
+    go zero p = omega arith
+    go (suc m) zero = small
+    go (suc m) (suc p) = go m p
+
+-- ---- how a script stands, with the lines since the last accepted operation 4: as a run of calls after a format does
+
+record Standing (s : Script) (kept : List Line) : Type 0 where
+  before : Image
+  accepted : formatAnswer (scriptGeometry (s .logical)) before ≡ Accepted
+  calls : List Call
+  words : runs.OfWords calls
+  stands : ran (scriptGeometry (s .logical)) (started (formatted (scriptGeometry (s .logical)) before)) calls ≡ record { image = s .image; writes = writesIn kept; erasures = erasuresIn kept }
+
+-- a line, and the image and the L after it: which lines count from there on
+abbrev Next : List Line → Line → Image → ℕ → Type 0
+Next kept l image logical =
+    (kept' : List Line) × ((ls : List Line) → since kept (l ∷ ls) ≡ since kept' ls) × Standing (record { image = image; logical = logical }) kept'
+
+module _ (s : Script) (kept : List Line) (st : Standing s kept) where
+  abbrev geo : Geometry
+  geo = scriptGeometry (s .logical)
+
+  -- a call more
+  call-more :
+      (l : Line) (c : Call) (image : Image) →
+      startsAnew l ≡ false →
+      runs.OfWords (c ∷ []) →
+      called geo (record { image = s .image; writes = writesIn kept; erasures = erasuresIn kept }) c
+      ≡ record { image = image; writes = writesIn kept + one-if (eqb (l .letter) 87 && eqb (l .answer) 0); erasures = erasuresIn kept + l .erasures } →
+      Next kept l image (s .logical)
+  unfolding since
+  call-more l c image goes-on handed does = (
+    kept ++ (l ∷ []),
+    λ ls. rw goes-on,
+    record {
+      before = st .before;
+      accepted = st .accepted;
+      calls = st .calls ++ (c ∷ []);
+      words = words-on (st .calls) (c ∷ []) (st .words) handed;
+      stands = rw (writes-on kept l, erasures-on kept l) (ran-on geo _ (st .calls) c ∙ ap (λ (t : State). called geo t c) (st .stands) ∙ does);
+    },
+  )
+
+  -- a record that leaves image and L, and whose line counts for nothing: as a check
+  idle : (l : Line) → startsAnew l ≡ false → eqb (l .letter) 87 ≡ false → l .erasures ≡ 0 → Next kept l (s .image) (s .logical)
+  unfolding called
+  idle l goes-on no-write none =
+      call-more l Check (s .image) goes-on tt (rw (no-write, none) (same-counts (omega arith) (omega arith)))
+
+  writes : (n fill : ℕ) → fill < 2 ^ 32 → Next kept (writeLine (s .image) (s .logical) n fill) (written geo (s .image) n (filled fill)) (s .logical)
+  unfolding called
+  writes n fill small = call-more (writeLine (s .image) (s .logical) n fill) (Write n (filled fill)) _ refl (filled-words sectorWords fill small, tt)
+      (same-counts (ap (writesIn kept +_) (sym (counted (writeAnswer geo (s .image) n (filled fill))))) refl)
+
+  releases : (n : ℕ) → Next kept (releaseLine (s .image) (s .logical) n) (released geo (s .image) n) (s .logical)
+  unfolding called
+  releases n = call-more (releaseLine (s .image) (s .logical) n) (Release n) _ refl tt (same-counts (omega arith) refl)
+
+  formats : (n : ℕ) → Next kept (formatLine (s .image) n) (formatted (scriptGeometry n) (s .image)) (logicalFormatted (s .image) (s .logical) n)
+  unfolding since ran writesIn erasuresIn
+  formats n = go (accepted? (formatAnswer (scriptGeometry n) (s .image)))
+    where
+      go :
+          Dec (formatAnswer (scriptGeometry n) (s .image) ≡ Accepted) →
+          Next kept (formatLine (s .image) n) (formatted (scriptGeometry n) (s .image)) (logicalFormatted (s .image) (s .logical) n)
+      go (yes e) =
+          rw e
+          ([], λ ls. refl, record { before = s .image; accepted = e; calls = []; words = tt; stands = refl })
+      go (no e) =
+          let answer = formatAnswer (scriptGeometry n) (s .image) in
+          rw (refused-changes-nothing (scriptGeometry n) (s .image) 0 [] .0 e, if-refused answer n (s .logical) e)
+          (idle (formatLine (s .image) n) (ne-eqb (numberOf answer) 0 (λ z. e (accepted-number answer .1 z))) refl refl)
+
+  -- any record
+  next : (r : Record) → r .fill < 2 ^ 32 → Next kept (lineOf (s .image) (s .logical) r) (imageAfter (s .image) (s .logical) r) (logicalAfter (s .image) (s .logical) r)
+  unfolding lineOf imageAfter logicalAfter
+  next r small = go (eqb (r .operation) 1) refl (eqb (r .operation) 2) refl (eqb (r .operation) 3) refl (eqb (r .operation) 4) refl
+    where
+      go :
+          (a : Bool) → eqb (r .operation) 1 ≡ a →
+          (b : Bool) → eqb (r .operation) 2 ≡ b →
+          (c : Bool) → eqb (r .operation) 3 ≡ c →
+          (e : Bool) → eqb (r .operation) 4 ≡ e →
+          Next kept (lineOf (s .image) (s .logical) r) (imageAfter (s .image) (s .logical) r) (logicalAfter (s .image) (s .logical) r)
+      go true p b q c u e v = rw p (writes (r .number) (r .fill) small)
+      go false p true q c u e v = rw (p, q) (idle (readLine (s .image) (s .logical) (r .number)) refl refl refl)
+      go false p false q true u e v = rw (p, q, u) (releases (r .number))
+      go false p false q false u true v = rw (p, q, u, v) (formats (r .number))
+      go false p false q false u false v = rw (p, q, u, v) (idle (otherLine (r .number) 7) refl refl refl)
+
+-- ---- any records
+
+abbrev Follows : Script → List Line → List Record → Type 0
+Follows s kept rs = Standing (afterAll s rs) (since kept (linesOf s rs))
+
+all-next : (rs : List Record) (s : Script) (kept : List Line) → OfWords rs → Standing s kept → Follows s kept rs
+unfolding afterAll linesOf since
+all-next [] s kept small st = st
+all-next (r ∷ rs) s kept small st =
+    let n = next s kept st r (small .0) in
+    rw (n .1 (linesOf (after s r) rs)) (all-next rs (after s r) (n .0) (small .1) (n .2))
+
+-- the start is a format that is accepted
+start-accepted : (before : Image) → length before ≡ imageLength (scriptGeometry defaultLogical) → formatAnswer (scriptGeometry defaultLogical) before ≡ Accepted
+unfolding formatAnswer withinLimits
+start-accepted before long = rw (eq-eqb _ _ long)
+
+started-standing : (before : Image) → length before ≡ imageLength (scriptGeometry defaultLogical) → Standing (startOf before) []
+unfolding ran writesIn erasuresIn
+started-standing before long = record { before = before; accepted = start-accepted before long; calls = []; words = tt; stands = refl }
+
+pub script-run-bound : ScriptRunBound
+unfolding reported
+script-run-bound before records long small =
+    let end = afterAll (startOf before) records in
+    let st = all-next records (startOf before) [] small (started-standing before long) in
+    let geo = scriptGeometry (end .logical) in
+    let checked = rw (st .stands) at (runs-stay-well-formed geo (st .before) (st .calls) (st .words) .0 (st .accepted)) in
+    let bound = rw (st .stands) at (run-bound geo (st .before) (st .calls) (st .accepted) (st .words)) in
+    (checked, bound .0, ap (λ t. t .«erase_sum») (if-accepted (totalsOf geo (end .image)) (noTotals (checkAnswer geo (end .image))) checked) ∙ bound .1)
+
+-- ---- operation 4
+
+-- a format is refused with 1 or not at all
+refused-with-1 : (geo : Geometry) (image : Image) → numberOf (formatAnswer geo image) ≢ 0 → numberOf (formatAnswer geo image) ≡ 1
+unfolding formatAnswer
+refused-with-1 geo image = go (row1 geo image .applies)
+  where
+    go : (b : Bool) → numberOf (cond b BadGeometry Accepted) ≢ 0 → numberOf (cond b BadGeometry Accepted) ≡ 1
+    go true n = refl
+    go false n = absurd (n refl)
+
+pub operation-four : OperationFour
+unfolding lineOf imageAfter logicalAfter formatted
+operation-four image logical r is =
+    let geo = scriptGeometry (r .number) in
+    let answer = formatAnswer geo image in
+    rw is (
+      refl,
+      λ z.
+          let yes-it-is = accepted-number answer .1 z in
+          (if-accepted (fresh geo) image yes-it-is, if-accepted (r .number) logical yes-it-is),
+      λ n.
+          let no-it-is : answer ≢ Accepted = λ a. n (accepted-number answer .0 a) in
+          (refused-with-1 geo image n, if-refused answer (fresh geo) image no-it-is, if-refused answer (r .number) logical no-it-is),
+    )

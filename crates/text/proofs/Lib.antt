@@ -1,0 +1,4 @@
+pub mod Decimal
+pub mod Stores
+pub mod Rows
+pub mod Lines

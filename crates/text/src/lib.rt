@@ -1,0 +1,66 @@
+// The bytes that the script program prints: a record's line, and the line of the totals. Each goes to the start of a buffer that the caller lends.
+ghost use mathlib.Core.Path.{_≡_};
+ghost use Prim.Native.Nat.{_+_, _*_, _≤_};
+ghost use lib.ListN.{length};
+ghost use lib.Seq.{sets};
+ghost use Rattle.text.specs.Decimal.{decimal};
+ghost use Rattle.text.specs.Lines.{row, lineText, totalsText, putFirst};
+use calls::Totals;
+use records::Line;
+
+// Puts the digits of n into out from `at` on. Answers where they end.
+fn put_decimal(n: u32, out: &mut [u8], at: usize) -> usize
+    requires { ⌜ at + length (decimal n) ≤ length (now out) ⌝ }
+    ensures { λ r. ⌜ r ≡ at + length (decimal n) ⌝ }
+    ensures { λ _. ⌜ now (out .exit) ≡ sets (now (out .entry)) at (decimal n) ⌝ }
+{
+    if n < 10 {
+        out[at] = 48 + n as u8;
+        return at + 1;
+    }
+    let last = put_decimal(n / 10, out, at);
+    out[last] = 48 + (n % 10) as u8;
+    last + 1
+}
+
+// Puts a letter, the numbers, each after a space, and a newline at the start of out, which has room for ten digits each. Answers how many bytes they are.
+fn put_row(letter: u8, numbers: &[u32], out: &mut [u8]) -> usize
+    requires { ⌜ 11 * length (now numbers) + 2 ≤ length (now out) ⌝ }
+    ensures { λ r. ⌜ r ≡ length (row letter (now (numbers .entry))) ⌝ }
+    ensures { λ _. ⌜ now (out .exit) ≡ putFirst (row letter (now (numbers .entry))) (now (out .entry)) ⌝ }
+{
+    out[0] = letter;
+    let mut at = 1;
+    let mut i = 0;
+    while i < numbers.len() {
+        out[at] = b' ';
+        at = put_decimal(numbers[i], out, at + 1);
+        i += 1;
+    }
+    out[at] = b'\n';
+    at + 1
+}
+
+// The line of a record, at the start of a buffer for the longest. Answers how many bytes it has.
+pub fn line_text(line: Line, out: &mut [u8; 57]) -> usize
+    ensures { λ r. ⌜ r ≡ length (lineText line) ⌝ }
+    ensures { λ _. ⌜ now (out .exit) ≡ putFirst (lineText line) (now (out .entry)) ⌝ }
+{
+    let numbers = [
+        line.number,
+        line.answer,
+        line.words,
+        line.erasures,
+        line.first,
+    ];
+    put_row(line.letter, &numbers, out)
+}
+
+// The line of the totals likewise.
+pub fn totals_text(totals: Totals, out: &mut [u8; 57]) -> usize
+    ensures { λ r. ⌜ r ≡ length (totalsText totals) ⌝ }
+    ensures { λ _. ⌜ now (out .exit) ≡ putFirst (totalsText totals) (now (out .entry)) ⌝ }
+{
+    let numbers = [totals.mapped, totals.free, totals.dead, totals.erase_sum];
+    put_row(b'T', &numbers, out)
+}
