@@ -1,5 +1,5 @@
-# Looks at the lines of scripts, one script after the other, by docs/FORMAT.md and neither implementation: w and E since the last accepted format, the bound
-# that they keep, and the sum of the erase counts. Fails where a line breaks it, or where a case never came about.
+# Looks at the lines of scripts, one script after the other, by docs/FORMAT.md and neither implementation: w and E since the last accepted format, the
+# bound that they keep, and the sum of the erase counts. Fails where a line breaks it, or where a case never came about.
 function came_about(what) { seen[what]++ }
 function say(what) {
     print "scripts: " what > "/dev/stderr"
@@ -10,11 +10,12 @@ function anew(l) { logical = l; w = E = 0 }
 
 BEGIN {
     anew(70)
-    split("L 0 1,L 1 0,L 104 0,L 105 1,L 4294967295 1,last number,one too many,kept,restarted after an erasure,erased after a format", wanted, ",")
+    split("L 0 1,L 1 0,L 104 0,L 105 1,L 4294967295 1,last number,one too many,kept,present L,restarted after an erasure,erased after a format", wanted, ",")
 }
 $1 == "L" {
     came_about("L " $2 " " $3)
     if ($3 == 0 && E > 0) came_about("restarted after an erasure")
+    if ($3 == 0 && $2 == logical) came_about("present L")
     if ($3 == 0) { anew($2); formatted = 1 }
     refused = $3
     next

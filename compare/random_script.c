@@ -30,10 +30,10 @@ static uint32_t operation(void)
 
 static uint32_t number(uint32_t few)
 {
-    static const uint32_t far[] = {69, 70, 89, 90, 0x10005u, 0x20000000u, 0xC0000005u, 0xFFFFFFFFu};
+    static const uint32_t anywhere[] = {69, 70, 89, 90, 0x10005u, 0x20000000u, 0xC0000005u, 0xFFFFFFFFu};
     switch (below(30)) {
     case 0:
-        return far[below(8)];
+        return anywhere[below(8)];
     case 1:
         return logical - 1;
     case 2:

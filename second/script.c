@@ -73,6 +73,12 @@ static uint32_t format(struct state *now, uint32_t logical)
     return answer;
 }
 
+static void fill(uint32_t *sector, uint32_t word)
+{
+    for (uint32_t i = 0; i < SECOND_SECTOR_WORDS; i++)
+        sector[i] = word;
+}
+
 static struct line run(struct state *now, struct record in)
 {
     uint32_t sector[SECOND_SECTOR_WORDS];
@@ -81,8 +87,7 @@ static struct line run(struct state *now, struct record in)
 
     switch (in.operation) {
     case OP_WRITE:
-        for (uint32_t i = 0; i < SECOND_SECTOR_WORDS; i++)
-            sector[i] = in.fill;
+        fill(sector, in.fill);
         out.letter = 'W';
         out.answer = second_write(BLOCKS, SECTORS, now->logical, now->image,
                                   IMAGE_WORDS, in.number, sector,

@@ -257,7 +257,7 @@ static void test_short(uint32_t length)
 static void test_by_hand(void)
 {
     static const uint32_t accepted[] = {1, 2, 69, 70, 71, 89, 90, 91, 104};
-    static const uint32_t fills[] = {0, 1, 105, ONES};
+    static const uint32_t fills[] = {1, 105, ONES};
 
     test_default();
     for (size_t i = 0; i < sizeof accepted / sizeof accepted[0]; i++)
@@ -469,7 +469,9 @@ int main(void)
         test_drawn(which);
     if (!failed && erasing_runs < SCRIPTS)
         fail("runs with an erasure:", erasing_runs);
+    if (failed)
+        return 1;
     printf("%u drawn scripts, %" PRIu32 " runs with an erasure\n", SCRIPTS,
            erasing_runs);
-    return failed ? 1 : 0;
+    return 0;
 }

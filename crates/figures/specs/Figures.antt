@@ -151,15 +151,19 @@ tableFigures =
 abbrev pub T1-to-T4 : Type 0
 T1-to-T4 = T (allMatch tableFigures)
 
--- the answer of a record, and the L after it, in a script that has the default L. None of these looks at the image beyond its length.
+-- a script with the default L, on an image of its length: none of these records looks further at it
+abbrev pub anyImage : List ℕ
+anyImage = replicate (imageLength (scriptGeometry defaultLogical)) ones
+
 abbrev pub recordFor : ℕ → ℕ → Record
 recordFor operation number = record { operation = operation; number = number; fill = 0 }
 
+-- the answer of a record, and the L after an operation 4
 abbrev pub answerOf : ℕ → ℕ → ℕ
-answerOf operation number = lineOf (replicate (imageLength (scriptGeometry defaultLogical)) ones) defaultLogical (recordFor operation number) .answer
+answerOf operation number = lineOf anyImage defaultLogical (recordFor operation number) .answer
 
-abbrev pub logicalOf : ℕ → ℕ → ℕ
-logicalOf operation number = logicalAfter (replicate (imageLength (scriptGeometry defaultLogical)) ones) defaultLogical (recordFor operation number)
+abbrev pub logicalOf : ℕ → ℕ
+logicalOf number = logicalAfter anyImage defaultLogical (recordFor 4 number)
 
 abbrev pub scriptFigures : List Figure
 scriptFigures =
@@ -177,15 +181,15 @@ scriptFigures =
     ∷ answerOf 1 89 is 3
     -- S3: operation 4, on both sides of the limits of L
     ∷ answerOf 4 0 is 1
-    ∷ logicalOf 4 0 is 70
+    ∷ logicalOf 0 is 70
     ∷ answerOf 4 1 is 0
-    ∷ logicalOf 4 1 is 1
+    ∷ logicalOf 1 is 1
     ∷ answerOf 4 104 is 0
-    ∷ logicalOf 4 104 is 104
+    ∷ logicalOf 104 is 104
     ∷ answerOf 4 105 is 1
-    ∷ logicalOf 4 105 is 70
+    ∷ logicalOf 105 is 70
     ∷ answerOf 4 0xFFFFFFFF is 1
-    ∷ logicalOf 4 0xFFFFFFFF is 70
+    ∷ logicalOf 0xFFFFFFFF is 70
     ∷ []
 
 -- S1 to S3

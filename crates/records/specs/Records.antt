@@ -24,7 +24,7 @@ scriptGeometry logical = shape 8 16 logical
 abbrev pub defaultLogical : ℕ
 defaultLogical = 70
 
--- the image that a script starts from, whatever was there
+-- the image that a script starts from, whatever its words were
 abbrev pub startedImage : Image → Image
 startedImage before = formatted (scriptGeometry defaultLogical) before
 

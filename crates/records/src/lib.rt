@@ -1,5 +1,5 @@
-// A script's records: what the bytes of one say, and what it does to the script's image and to its L, the number of logical sectors. The program `script`
-// reads records and prints their lines.
+// A script's records (docs/FORMAT.md, The script program): what the bytes of one say, and what it does to the script's image and to its L, the number
+// of logical sectors. The program `script` reads records and prints their lines.
 ghost use mathlib.Core.Path.{_≡_};
 ghost use Prim.Native.Nat.{_+_, _≤_};
 ghost use Rattle.geometry.specs.Geometry.{filled};
@@ -160,7 +160,7 @@ fn if_accepted(answer: Answer, new: u32, old: u32) -> u32
     old
 }
 
-// Formats afresh with `number` as L (K3).
+// Operation 4: a format whose L is `number` (K3).
 fn format(image: &mut [u32], logical: &mut u32, number: u32) -> Line
     ensures { λ l. ⌜ l ≡ formatLine (now (image .entry)) number ⌝ }
     ensures { λ _. ⌜ now (image .exit) ≡ formatted (scriptGeometry number) (now (image .entry)) ⌝ }

@@ -5,13 +5,13 @@ use libc::STDOUT_FILENO;
 use records::Line;
 
 fn print_line(line: Line) {
-    let mut out = [0u8; 57];
+    let mut out = [0u8; text::LONGEST_LINE];
     let count = text::line_text(line, &mut out);
     io::write_all(STDOUT_FILENO, &out[..count]);
 }
 
 fn print_totals(image: &[u32], logical: u32) {
-    let mut out = [0u8; 57];
+    let mut out = [0u8; text::LONGEST_LINE];
     let count = text::totals_text(records::end(image, logical), &mut out);
     io::write_all(STDOUT_FILENO, &out[..count]);
 }

@@ -1,17 +1,18 @@
--- The statements of specs/Scripts.antt: the records since the last accepted operation 4 are a run of calls after a format, of which demand 3 holds. Assumes
--- nothing.
+-- The statements of specs/Scripts.antt: the records since the last accepted operation 4 are a run of calls after a format, of which demand 3 holds.
+-- Assumes nothing.
 use mathlib.Core.Path.{_≡_, refl, sym, ap, _∙_}
 use mathlib.Core.Bool.{Bool, true, false, cond, _&&_}
-use mathlib.Core.Logic.{_≢_}
+use mathlib.Core.Logic.{_≢_, _↔_}
 use mathlib.Core.List.{List, [], _∷_, _++_}
-use Prim.Native.Nat.{ℕ, zero, suc, _+_, _^_, _<_}
+use Prim.Native.Nat.{ℕ, zero, suc, _+_, _^_, _≤_, _<_}
 use native.Mathlib.Omega.{arith}
 use borrow.Author.Tests.{eq-eqb, ne-eqb}
 use lib.Dec.{eqb}
 use lib.ListN.{length, getD, replicate}
 use Rattle.ranges.specs.Range.{one-if}
 use Rattle.geometry.specs.declared.Geometry.{Geometry}
-use Rattle.geometry.specs.Geometry.{sectorWords, filled, imageLength, withinLimits}
+use Rattle.geometry.specs.Geometry.{sectorWords, filled, imageLength, Limits}
+use Rattle.geometry.proofs.Laws.{limits-pass}
 use Rattle.image.specs.Words.{Image, Words32}
 use Rattle.answers.specs.declared.Answer.{Answer}
 use Rattle.answers.specs.declared.Answer.the-variants.{Accepted, BadGeometry}
@@ -19,14 +20,14 @@ use Rattle.answers.specs.Answers.{numberOf, ifAccepted}
 use Rattle.answers.proofs.Acceptance.{accepted-number, if-accepted, if-refused, accepted?}
 use Rattle.calls.specs.Refusals.{row1, formatAnswer, checkAnswer, writeAnswer}
 use Rattle.calls.specs.Calls.{fresh, formatted, written, released, totalsOf, noTotals, reported}
-use Rattle.promises.specs.Runs.{Call, Check, Report, Read, Write, Release, Build, ReadWith, WriteWith, ReleaseWith, State, called, ran, started}
-use Rattle.promises.specs.Runs as runs
+use Rattle.promises.specs.Runs.{Call, Check, Report, Read, Write, Release, Build, ReadWith, WriteWith, ReleaseWith, State, called, ran, started, OfWords}
+use Rattle.promises.proofs.Accepted.{format-accepted}
 use Rattle.promises.proofs.Demands.{refused-changes-nothing, run-bound}
 use Rattle.promises.proofs.Properties.{runs-stay-well-formed}
 use Rattle.records.specs.declared.Line.{Line}
 use Rattle.records.specs.declared.Record.{Record}
-use Rattle.records.specs.Records.{scriptGeometry, defaultLogical, startedImage, writeLine, readLine, releaseLine, formatLine, otherLine, lineOf, imageAfter, logicalFormatted, logicalAfter}
-use Rattle.script_promises.specs.Scripts.{Script, startOf, after, afterAll, linesOf, startsAnew, since, writesIn, erasuresIn, OfWords, ScriptRunBound, OperationFour}
+use Rattle.records.specs.Records.{scriptGeometry, defaultLogical, writeLine, readLine, releaseLine, formatLine, otherLine, lineOf, imageAfter, logicalFormatted, logicalAfter}
+use Rattle.script_promises.specs.Scripts.{Script, startOf, after, afterAll, linesOf, startsAnew, sinceLastFormat, acceptedWrite, writesTold, erasuresTold, FillsAreWords, ScriptRunBound, OperationFour}
 
 -- ---- one more at the end: of a run, of its buffers, and of what lines count
 
@@ -35,7 +36,7 @@ unfolding ran
 ran-on geo s [] c = refl
 ran-on geo s (x ∷ cs) c = ran-on geo (called geo s x) cs c
 
-words-on : (cs ds : List Call) → runs.OfWords cs → runs.OfWords ds → runs.OfWords (cs ++ ds)
+words-on : (cs ds : List Call) → OfWords cs → OfWords ds → OfWords (cs ++ ds)
 words-on [] ds w v = v
 words-on (Check ∷ cs) ds w v = words-on cs ds w v
 words-on (Report ∷ cs) ds w v = words-on cs ds w v
@@ -47,13 +48,13 @@ words-on (ReadWith n buffer table ∷ cs) ds w v = words-on cs ds w v
 words-on (WriteWith n buffer table ∷ cs) ds w v = (w .0, words-on cs ds (w .1) v)
 words-on (ReleaseWith n table ∷ cs) ds w v = words-on cs ds w v
 
-writes-on : (ls : List Line) (l : Line) → writesIn (ls ++ (l ∷ [])) ≡ writesIn ls + one-if (eqb (l .letter) 87 && eqb (l .answer) 0)
-unfolding writesIn
+writes-on : (ls : List Line) (l : Line) → writesTold (ls ++ (l ∷ [])) ≡ writesTold ls + one-if (acceptedWrite l)
+unfolding writesTold
 writes-on [] l = omega arith
-writes-on (x ∷ ls) l = ap (one-if (eqb (x .letter) 87 && eqb (x .answer) 0) +_) (writes-on ls l) ∙ omega arith
+writes-on (x ∷ ls) l = ap (one-if (acceptedWrite x) +_) (writes-on ls l) ∙ omega arith
 
-erasures-on : (ls : List Line) (l : Line) → erasuresIn (ls ++ (l ∷ [])) ≡ erasuresIn ls + l .erasures
-unfolding erasuresIn
+erasures-on : (ls : List Line) (l : Line) → erasuresTold (ls ++ (l ∷ [])) ≡ erasuresTold ls + l .erasures
+unfolding erasuresTold
 erasures-on [] l = omega arith
 erasures-on (x ∷ ls) l = ap (x .erasures +_) (erasures-on ls l) ∙ omega arith
 
@@ -65,8 +66,11 @@ counted a = go (accepted? a)
     go (yes e) = rw e
     go (no n) = rw (ne-eqb (numberOf a) 0 (λ z. n (accepted-number a .1 z)), if-refused {A = ℕ} a 1 0 n)
 
--- two states of a run with one image
-same-counts : {image : Image} {w w' e e' : ℕ} → w ≡ w' → e ≡ e' → _≡_ {A = State} (record { image = image; writes = w; erasures = e }) (record { image = image; writes = w'; erasures = e' })
+-- a run's state, by its parts
+abbrev state : Image → ℕ → ℕ → State
+state image w e = record { image = image; writes = w; erasures = e }
+
+same-counts : {image : Image} {w w' e e' : ℕ} → w ≡ w' → e ≡ e' → state image w e ≡ state image w' e'
 same-counts p q = rw (p, q)
 
 -- a buffer of fill words is of 32-bit words
@@ -78,19 +82,53 @@ filled-words k fill small = record { small = go k }
     go (suc m) zero = small
     go (suc m) (suc p) = go m p
 
+-- of an image of a script's length, a format is accepted exactly for an L from 1 to 104
+accepted-from-1-to-104 :
+    (image : Image) (n : ℕ) →
+    length image ≡ imageLength (scriptGeometry n) →
+    (formatAnswer (scriptGeometry n) image ≡ Accepted) ↔ ((1 ≤ n) × (n ≤ 104))
+unfolding formatAnswer
+accepted-from-1-to-104 image n long = (
+  λ accepted.
+      let limits = format-accepted (scriptGeometry n) image accepted .limits in
+      (limits .logical-low, omega (arith, limits .logical-high)),
+  λ within.
+      let limits : Limits (scriptGeometry n) = record {
+        blocks-low = omega arith;
+        blocks-high = omega arith;
+        sectors-low = omega arith;
+        sectors-high = omega arith;
+        logical-low = within .0;
+        logical-high = omega (arith, within .1);
+      } in
+      rw (limits-pass (scriptGeometry n) limits, eq-eqb _ _ long),
+)
+
 -- ---- how a script stands, with the lines since the last accepted operation 4: as a run of calls after a format does
 
 record Standing (s : Script) (kept : List Line) : Type 0 where
   before : Image
   accepted : formatAnswer (scriptGeometry (s .logical)) before ≡ Accepted
   calls : List Call
-  words : runs.OfWords calls
-  stands : ran (scriptGeometry (s .logical)) (started (formatted (scriptGeometry (s .logical)) before)) calls ≡ record { image = s .image; writes = writesIn kept; erasures = erasuresIn kept }
+  words : OfWords calls
+  stands :
+      ran (scriptGeometry (s .logical)) (started (formatted (scriptGeometry (s .logical)) before)) calls
+      ≡ state (s .image) (writesTold kept) (erasuresTold kept)
+
+-- after an accepted format, with no line since
+just-formatted :
+    (before : Image) (n : ℕ) →
+    formatAnswer (scriptGeometry n) before ≡ Accepted →
+    Standing (record { image = formatted (scriptGeometry n) before; logical = n }) []
+unfolding ran writesTold erasuresTold
+just-formatted before n accepted = record { before = before; accepted = accepted; calls = []; words = tt; stands = refl }
 
 -- a line, and the image and the L after it: which lines count from there on
 abbrev Next : List Line → Line → Image → ℕ → Type 0
 Next kept l image logical =
-    (kept' : List Line) × ((ls : List Line) → since kept (l ∷ ls) ≡ since kept' ls) × Standing (record { image = image; logical = logical }) kept'
+    (kept' : List Line)
+    × ((ls : List Line) → sinceLastFormat kept (l ∷ ls) ≡ sinceLastFormat kept' ls)
+    × Standing (record { image = image; logical = logical }) kept'
 
 module _ (s : Script) (kept : List Line) (st : Standing s kept) where
   abbrev geo : Geometry
@@ -100,11 +138,11 @@ module _ (s : Script) (kept : List Line) (st : Standing s kept) where
   call-more :
       (l : Line) (c : Call) (image : Image) →
       startsAnew l ≡ false →
-      runs.OfWords (c ∷ []) →
-      called geo (record { image = s .image; writes = writesIn kept; erasures = erasuresIn kept }) c
-      ≡ record { image = image; writes = writesIn kept + one-if (eqb (l .letter) 87 && eqb (l .answer) 0); erasures = erasuresIn kept + l .erasures } →
+      OfWords (c ∷ []) →
+      called geo (state (s .image) (writesTold kept) (erasuresTold kept)) c
+      ≡ state image (writesTold kept + one-if (acceptedWrite l)) (erasuresTold kept + l .erasures) →
       Next kept l image (s .logical)
-  unfolding since
+  unfolding sinceLastFormat
   call-more l c image goes-on handed does = (
     kept ++ (l ∷ []),
     λ ls. rw goes-on,
@@ -113,51 +151,62 @@ module _ (s : Script) (kept : List Line) (st : Standing s kept) where
       accepted = st .accepted;
       calls = st .calls ++ (c ∷ []);
       words = words-on (st .calls) (c ∷ []) (st .words) handed;
-      stands = rw (writes-on kept l, erasures-on kept l) (ran-on geo _ (st .calls) c ∙ ap (λ (t : State). called geo t c) (st .stands) ∙ does);
+      stands =
+          rw (writes-on kept l, erasures-on kept l)
+          (ran-on geo _ (st .calls) c ∙ ap (λ (t : State). called geo t c) (st .stands) ∙ does);
     },
   )
 
   -- a record that leaves image and L, and whose line counts for nothing: as a check
-  idle : (l : Line) → startsAnew l ≡ false → eqb (l .letter) 87 ≡ false → l .erasures ≡ 0 → Next kept l (s .image) (s .logical)
+  idle : (l : Line) → startsAnew l ≡ false → acceptedWrite l ≡ false → l .erasures ≡ 0 → Next kept l (s .image) (s .logical)
   unfolding called
   idle l goes-on no-write none =
       call-more l Check (s .image) goes-on tt (rw (no-write, none) (same-counts (omega arith) (omega arith)))
 
-  writes : (n fill : ℕ) → fill < 2 ^ 32 → Next kept (writeLine (s .image) (s .logical) n fill) (written geo (s .image) n (filled fill)) (s .logical)
+  writes :
+      (n fill : ℕ) →
+      fill < 2 ^ 32 →
+      Next kept (writeLine (s .image) (s .logical) n fill) (written geo (s .image) n (filled fill)) (s .logical)
   unfolding called
-  writes n fill small = call-more (writeLine (s .image) (s .logical) n fill) (Write n (filled fill)) _ refl (filled-words sectorWords fill small, tt)
-      (same-counts (ap (writesIn kept +_) (sym (counted (writeAnswer geo (s .image) n (filled fill))))) refl)
+  writes n fill small =
+      call-more (writeLine (s .image) (s .logical) n fill) (Write n (filled fill)) _ refl (filled-words sectorWords fill small, tt)
+      (same-counts (ap (writesTold kept +_) (sym (counted (writeAnswer geo (s .image) n (filled fill))))) refl)
 
   releases : (n : ℕ) → Next kept (releaseLine (s .image) (s .logical) n) (released geo (s .image) n) (s .logical)
   unfolding called
   releases n = call-more (releaseLine (s .image) (s .logical) n) (Release n) _ refl tt (same-counts (omega arith) refl)
 
   formats : (n : ℕ) → Next kept (formatLine (s .image) n) (formatted (scriptGeometry n) (s .image)) (logicalFormatted (s .image) (s .logical) n)
-  unfolding since ran writesIn erasuresIn
+  unfolding sinceLastFormat
   formats n = go (accepted? (formatAnswer (scriptGeometry n) (s .image)))
     where
       go :
           Dec (formatAnswer (scriptGeometry n) (s .image) ≡ Accepted) →
           Next kept (formatLine (s .image) n) (formatted (scriptGeometry n) (s .image)) (logicalFormatted (s .image) (s .logical) n)
-      go (yes e) =
-          rw e
-          ([], λ ls. refl, record { before = s .image; accepted = e; calls = []; words = tt; stands = refl })
+      go (yes e) = rw e ([], λ ls. refl, just-formatted (s .image) n e)
       go (no e) =
           let answer = formatAnswer (scriptGeometry n) (s .image) in
           rw (refused-changes-nothing (scriptGeometry n) (s .image) 0 [] .0 e, if-refused answer n (s .logical) e)
           (idle (formatLine (s .image) n) (ne-eqb (numberOf answer) 0 (λ z. e (accepted-number answer .1 z))) refl refl)
 
   -- any record
-  next : (r : Record) → r .fill < 2 ^ 32 → Next kept (lineOf (s .image) (s .logical) r) (imageAfter (s .image) (s .logical) r) (logicalAfter (s .image) (s .logical) r)
+  abbrev After : Record → Type 0
+  After r = Next kept (lineOf (s .image) (s .logical) r) (imageAfter (s .image) (s .logical) r) (logicalAfter (s .image) (s .logical) r)
+
+  next : (r : Record) → r .fill < 2 ^ 32 → After r
   unfolding lineOf imageAfter logicalAfter
   next r small = go (eqb (r .operation) 1) refl (eqb (r .operation) 2) refl (eqb (r .operation) 3) refl (eqb (r .operation) 4) refl
     where
       go :
-          (a : Bool) → eqb (r .operation) 1 ≡ a →
-          (b : Bool) → eqb (r .operation) 2 ≡ b →
-          (c : Bool) → eqb (r .operation) 3 ≡ c →
-          (e : Bool) → eqb (r .operation) 4 ≡ e →
-          Next kept (lineOf (s .image) (s .logical) r) (imageAfter (s .image) (s .logical) r) (logicalAfter (s .image) (s .logical) r)
+          (a : Bool) →
+          eqb (r .operation) 1 ≡ a →
+          (b : Bool) →
+          eqb (r .operation) 2 ≡ b →
+          (c : Bool) →
+          eqb (r .operation) 3 ≡ c →
+          (e : Bool) →
+          eqb (r .operation) 4 ≡ e →
+          After r
       go true p b q c u e v = rw p (writes (r .number) (r .fill) small)
       go false p true q c u e v = rw (p, q) (idle (readLine (s .image) (s .logical) (r .number)) refl refl refl)
       go false p false q true u e v = rw (p, q, u) (releases (r .number))
@@ -166,34 +215,28 @@ module _ (s : Script) (kept : List Line) (st : Standing s kept) where
 
 -- ---- any records
 
-abbrev Follows : Script → List Line → List Record → Type 0
-Follows s kept rs = Standing (afterAll s rs) (since kept (linesOf s rs))
-
-all-next : (rs : List Record) (s : Script) (kept : List Line) → OfWords rs → Standing s kept → Follows s kept rs
-unfolding afterAll linesOf since
+all-next :
+    (rs : List Record) (s : Script) (kept : List Line) →
+    FillsAreWords rs →
+    Standing s kept →
+    Standing (afterAll s rs) (sinceLastFormat kept (linesOf s rs))
+unfolding afterAll linesOf sinceLastFormat
 all-next [] s kept small st = st
 all-next (r ∷ rs) s kept small st =
     let n = next s kept st r (small .0) in
     rw (n .1 (linesOf (after s r) rs)) (all-next rs (after s r) (n .0) (small .1) (n .2))
 
--- the start is a format that is accepted
-start-accepted : (before : Image) → length before ≡ imageLength (scriptGeometry defaultLogical) → formatAnswer (scriptGeometry defaultLogical) before ≡ Accepted
-unfolding formatAnswer withinLimits
-start-accepted before long = rw (eq-eqb _ _ long)
-
-started-standing : (before : Image) → length before ≡ imageLength (scriptGeometry defaultLogical) → Standing (startOf before) []
-unfolding ran writesIn erasuresIn
-started-standing before long = record { before = before; accepted = start-accepted before long; calls = []; words = tt; stands = refl }
-
 pub script-run-bound : ScriptRunBound
 unfolding reported
 script-run-bound before records long small =
     let end = afterAll (startOf before) records in
-    let st = all-next records (startOf before) [] small (started-standing before long) in
+    let accepted = accepted-from-1-to-104 before defaultLogical long .1 (omega arith, omega arith) in
+    let st = all-next records (startOf before) [] small (just-formatted before defaultLogical accepted) in
     let geo = scriptGeometry (end .logical) in
     let checked = rw (st .stands) at (runs-stay-well-formed geo (st .before) (st .calls) (st .words) .0 (st .accepted)) in
     let bound = rw (st .stands) at (run-bound geo (st .before) (st .calls) (st .accepted) (st .words)) in
-    (checked, bound .0, ap (λ t. t .«erase_sum») (if-accepted (totalsOf geo (end .image)) (noTotals (checkAnswer geo (end .image))) checked) ∙ bound .1)
+    let totals = if-accepted (totalsOf geo (end .image)) (noTotals (checkAnswer geo (end .image))) checked in
+    (checked, bound .0, ap (λ t. t .«erase_sum») totals ∙ bound .1)
 
 -- ---- operation 4
 
@@ -219,4 +262,7 @@ operation-four image logical r is =
       λ n.
           let no-it-is : answer ≢ Accepted = λ a. n (accepted-number answer .0 a) in
           (refused-with-1 geo image n, if-refused answer (fresh geo) image no-it-is, if-refused answer (r .number) logical no-it-is),
+      λ long.
+          let exactly = accepted-from-1-to-104 image (r .number) long in
+          (λ z. exactly .0 (accepted-number answer .1 z), λ l. accepted-number answer .0 (exactly .1 l)),
     )

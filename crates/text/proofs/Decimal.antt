@@ -80,7 +80,8 @@ pub digits-give-the-number-back : DigitsGiveTheNumberBack
 digits-give-the-number-back =
     by-tenths (λ n. readOn 0 (decimal n) ≡ n)
     (λ n l. rw (one-digit n l) (omega arith))
-    (λ n l tenth. rw (more-digits n l, read-append 0 (decimal (n / 10)) (digit (n % 10) ∷ []), tenth) (omega (arith, div-add-mod' n 10)))
+    (λ n l tenth.
+    rw (more-digits n l, read-append 0 (decimal (n / 10)) (digit (n % 10) ∷ []), tenth) (omega (arith, div-add-mod' n 10)))
   where
     read-append : (n : ℕ) (s t : List ℕ) → readOn n (s ++ t) ≡ readOn (readOn n s) t
     read-append n [] t = refl
@@ -118,11 +119,19 @@ no-leading-zero n = (only-digits n, some-digits n, λ is. rw (first-digit n is) 
 pub few-digits : FewDigits
 few-digits = (λ k n. all n k, λ n l. all n 10 (omega arith) (omega arith))
   where
-    more : (n : ℕ) → 10 ≤ n → ((k : ℕ) → 1 ≤ k → n / 10 < 10 ^ k → length (decimal (n / 10)) ≤ k) → (k : ℕ) → 1 ≤ k → n < 10 ^ k → length (decimal n) ≤ k
+    more :
+        (n : ℕ) →
+        10 ≤ n →
+        ((k : ℕ) → 1 ≤ k → n / 10 < 10 ^ k → length (decimal (n / 10)) ≤ k) →
+        (k : ℕ) →
+        1 ≤ k →
+        n < 10 ^ k →
+        length (decimal n) ≤ k
     more n l tenth zero one below = absurd (omega arith)
     more n l tenth (suc zero) one below = absurd (omega arith)
     more n l tenth (suc (suc k)) one below =
-        omega (arith, one-more n l, tenth (suc k) (omega arith) (div-lt-iff-lt-mul {k = 10} (omega arith) .1 (rw (pow-suc 10 (suc k)) at below)))
+        let less = div-lt-iff-lt-mul {k = 10} (omega arith) .1 (rw (pow-suc 10 (suc k)) at below) in
+        omega (arith, one-more n l, tenth (suc k) (omega arith) less)
 
     all : (n k : ℕ) → 1 ≤ k → n < 10 ^ k → length (decimal n) ≤ k
     all = by-tenths (λ n. (k : ℕ) → 1 ≤ k → n < 10 ^ k → length (decimal n) ≤ k) (λ n l k one below. rw (one-digit n l) one) more

@@ -1,21 +1,21 @@
 -- A row, number by number: its text and its length. Assumes nothing.
 use mathlib.Core.Path.{_≡_, refl, sym, ap, _∙_}
 use mathlib.Core.List.{List, [], _∷_, _++_, append-assoc, append-nil}
-use Prim.Native.Nat.{ℕ, suc, _+_, _*_, _^_, _≤_, _<_}
+use Prim.Native.Nat.{ℕ, suc, _+_, _≤_, _<_}
 use native.Mathlib.Nat.{zero-add}
 use native.Mathlib.Numerals.{add-one}
 use native.Mathlib.Omega.{arith}
-use lib.ListN.{length, getD, take, drop, set, length-append, take-append-drop}
-use lib.Seq.{sets, sets-eq, take-suc, take-all}
+use lib.ListN.{length, getD, take, drop, set, length-append}
+use lib.Seq.{sets, sets-eq, take-suc}
 use Rattle.text.specs.Decimal.{decimal}
 use Rattle.text.specs.Lines.{spaced, row, putFirst}
-use Rattle.text.proofs.Decimal.{few-digits}
 use Rattle.text.proofs.Stores.{sets-append}
 
 spaced-append : (ms ns : List ℕ) → spaced (ms ++ ns) ≡ spaced ms ++ spaced ns
 unfolding spaced
 spaced-append [] ns = refl
-spaced-append (m ∷ ms) ns = ap (λ t. 32 ∷ decimal m ++ t) (spaced-append ms ns) ∙ ap (32 ∷_) (sym (append-assoc (decimal m) (spaced ms) (spaced ns)))
+spaced-append (m ∷ ms) ns =
+    ap (λ t. 32 ∷ decimal m ++ t) (spaced-append ms ns) ∙ ap (32 ∷_) (sym (append-assoc (decimal m) (spaced ms) (spaced ns)))
 
 pub none-spaced : spaced [] ≡ []
 unfolding spaced
@@ -24,10 +24,6 @@ none-spaced = refl
 one-spaced : (n : ℕ) → spaced (n ∷ []) ≡ 32 ∷ decimal n
 unfolding spaced
 one-spaced n = ap (32 ∷_) (append-nil (decimal n))
-
-next-spaced : (n : ℕ) (ns : List ℕ) → length (spaced (n ∷ ns)) ≡ 1 + length (decimal n) + length (spaced ns)
-next-spaced n ns =
-    ap length (spaced-append (n ∷ []) ns) ∙ length-append (spaced (n ∷ [])) (spaced ns) ∙ ap (λ (t : List ℕ). length t + length (spaced ns)) (one-spaced n) ∙ omega arith
 
 -- one number more
 module _ (ns : List ℕ) (i : ℕ) (more : i < length ns) where
@@ -48,30 +44,9 @@ module _ (ns : List ℕ) (i : ℕ) (more : i < length ns) where
       rw (put, ends, add-one)
       (sym (ap (sets start 1) next ∙ sets-append start 1 (spaced (take i ns)) (32 ∷ decimal (getD ns i 0))))
 
--- the first numbers take no more than all
-pub first-length : (ns : List ℕ) (i : ℕ) → length (spaced (take i ns)) ≤ length (spaced ns)
-first-length ns i =
-    omega (arith, ap (λ (ms : List ℕ). length (spaced ms)) (take-append-drop i ns), ap length (spaced-append (take i ns) (drop i ns)), length-append (spaced (take i ns)) (spaced (drop i ns)))
-
 pub row-length : (letter : ℕ) (ns : List ℕ) → length (row letter ns) ≡ length (spaced ns) + 2
 unfolding row
 row-length letter ns = ap suc (length-append (spaced ns) (10 ∷ [])) ∙ omega arith
-
--- a number of 32 bits takes a space and ten digits at most
-pub row-fits : (letter : ℕ) (ns : List ℕ) → ((p : ℕ) → getD ns p 0 < 2 ^ 32) → length (row letter ns) ≤ 11 * length ns + 2
-row-fits letter ns small = omega (arith, row-length letter ns, spaced-fits ns small)
-  where
-    spaced-fits : (ms : List ℕ) → ((p : ℕ) → getD ms p 0 < 2 ^ 32) → length (spaced ms) ≤ 11 * length ms
-    spaced-fits [] small = rw none-spaced (omega arith)
-    spaced-fits (m ∷ ms) small =
-        omega (arith, next-spaced m ms, few-digits .1 m (small 0), spaced-fits ms (λ p. small (suc p)))
-
--- so the next number fits where the row does
-pub next-fits :
-    (letter : ℕ) (ns : List ℕ) (i : ℕ) →
-    i < length ns →
-    length (spaced (take i ns)) + length (decimal (getD ns i 0)) + 3 ≤ length (row letter ns)
-next-fits letter ns i more = omega (arith, next-length ns i more, first-length ns (i + 1), row-length letter ns)
 
 -- letter, numbers and newline, one after the other, are the row at the start
 pub whole-put :

@@ -1,10 +1,10 @@
 -- Stores one after the other: those of a text that is put together from two, and so of a number's digits and of a row's numbers. Assumes nothing.
-use mathlib.Core.Path.{_≡_, refl, sym, ap, _∙_}
+use mathlib.Core.Path.{_≡_, sym, ap, _∙_}
 use mathlib.Core.List.{List, [], _∷_, _++_}
 use Prim.Native.Nat.{ℕ, suc, _+_, _/_, _%_, _≤_}
 use native.Mathlib.Omega.{arith}
-use lib.ListN.{length, take, drop, set}
-use lib.Seq.{sets, sets-eq}
+use lib.ListN.{length, set}
+use lib.Seq.{sets}
 use Rattle.text.specs.Decimal.{digit, decimal}
 use Rattle.text.proofs.Decimal.{more-digits}
 

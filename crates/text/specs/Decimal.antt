@@ -1,4 +1,5 @@
--- A number in decimal digits, in ASCII, and what is promised of them. proofs/Decimal.antt proves each statement under the name in small letters.
+-- A number in decimal digits, in ASCII (FORMAT.md, The script program), and what is promised of them. proofs/Decimal.antt proves each statement
+-- under the name in small letters.
 use mathlib.Core.Path.{_≡_}
 use mathlib.Core.Bool.{Bool, true, cond, _&&_}
 use mathlib.Core.List.{List, [], _∷_, _++_}
@@ -37,7 +38,10 @@ DigitsGiveTheNumberBack = (n : ℕ) → readOn 0 (decimal n) ≡ n
 -- They are digits and nothing else, one or more, and the first is a 0 in `0` alone.
 abbrev pub NoLeadingZero : Type 0
 NoLeadingZero =
-    (n : ℕ) → (allDigits (decimal n) ≡ true) × (1 ≤ length (decimal n)) × (getD (decimal n) 0 0 ≡ digit 0 → decimal n ≡ digit 0 ∷ [])
+    (n : ℕ) →
+    (allDigits (decimal n) ≡ true)
+    × (1 ≤ length (decimal n))
+    × (getD (decimal n) 0 0 ≡ digit 0 → decimal n ≡ digit 0 ∷ [])
 
 -- A number below 10^k has k digits at most, so one of 32 bits has ten at most.
 abbrev pub FewDigits : Type 0

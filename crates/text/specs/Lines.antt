@@ -2,7 +2,7 @@
 -- small letters.
 use mathlib.Core.Path.{_≡_}
 use mathlib.Core.List.{List, [], _∷_, _++_}
-use Prim.Native.Nat.{ℕ, _+_, _*_, _≤_}
+use Prim.Native.Nat.{ℕ}
 use lib.ListN.{length, drop}
 use Rattle.calls.specs.declared.Totals.{Totals}
 use Rattle.records.specs.declared.Line.{Line}

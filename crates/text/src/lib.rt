@@ -1,4 +1,5 @@
-// The bytes that the script program prints: a record's line, and the line of the totals. Each goes to the start of a buffer that the caller lends.
+// The bytes that the script program prints (docs/FORMAT.md, The script program): a record's line, and the line of the totals. Each goes to the start
+// of a buffer that the caller lends.
 ghost use mathlib.Core.Path.{_≡_};
 ghost use Prim.Native.Nat.{_+_, _*_, _≤_};
 ghost use lib.ListN.{length};
@@ -7,6 +8,9 @@ ghost use Rattle.text.specs.Decimal.{decimal};
 ghost use Rattle.text.specs.Lines.{row, lineText, totalsText, putFirst};
 use calls::Totals;
 use records::Line;
+
+// The bytes of the longest line: a letter, five times a space and ten digits, a newline.
+pub const LONGEST_LINE: usize = 57;
 
 // Puts the digits of n into out from `at` on. Answers where they end.
 fn put_decimal(n: u32, out: &mut [u8], at: usize) -> usize
@@ -23,7 +27,8 @@ fn put_decimal(n: u32, out: &mut [u8], at: usize) -> usize
     last + 1
 }
 
-// Puts a letter, the numbers, each after a space, and a newline at the start of out, which has room for ten digits each. Answers how many bytes they are.
+// Puts a letter, the numbers, each after a space, and a newline at the start of out, which has room for ten digits of each. Answers how many bytes
+// these are.
 fn put_row(letter: u8, numbers: &[u32], out: &mut [u8]) -> usize
     requires { ⌜ 11 * length (now numbers) + 2 ≤ length (now out) ⌝ }
     ensures { λ r. ⌜ r ≡ length (row letter (now (numbers .entry))) ⌝ }
@@ -41,8 +46,8 @@ fn put_row(letter: u8, numbers: &[u32], out: &mut [u8]) -> usize
     at + 1
 }
 
-// The line of a record, at the start of a buffer for the longest. Answers how many bytes it has.
-pub fn line_text(line: Line, out: &mut [u8; 57]) -> usize
+// The line of a record, at the start of a buffer. Answers how many bytes it has.
+pub fn line_text(line: Line, out: &mut [u8; LONGEST_LINE]) -> usize
     ensures { λ r. ⌜ r ≡ length (lineText line) ⌝ }
     ensures { λ _. ⌜ now (out .exit) ≡ putFirst (lineText line) (now (out .entry)) ⌝ }
 {
@@ -57,7 +62,7 @@ pub fn line_text(line: Line, out: &mut [u8; 57]) -> usize
 }
 
 // The line of the totals likewise.
-pub fn totals_text(totals: Totals, out: &mut [u8; 57]) -> usize
+pub fn totals_text(totals: Totals, out: &mut [u8; LONGEST_LINE]) -> usize
     ensures { λ r. ⌜ r ≡ length (totalsText totals) ⌝ }
     ensures { λ _. ⌜ now (out .exit) ≡ putFirst (totalsText totals) (now (out .entry)) ⌝ }
 {

@@ -1,6 +1,8 @@
 -- `script::print_totals` is safe: the line is within its buffer.
+use mathlib.Core.Path.{sym}
 use borrow.Author.Needs.{needs}
 use lib.ListN.{replicate}
+use lib.Seq.{length-take-le}
 use Rattle.text.specs.Lines.{totalsText}
 use Rattle.text.proofs.Lines.{within}
 use Rattle.script.proofs.print_totals.Statement.{statement}
@@ -13,10 +15,11 @@ totals-text-requires : tie.Need-totals-text-requires
 totals-text-requires c κs = search needs
 
 array-share-prefix-out : tie.Need-array-share-prefix-out
-array-share-prefix-out c = within (totalsText (c .before .before .end .result)) (replicate 57 0) (c .totals-text .ensures .0) (c .totals-text .ensures .1) .0
+array-share-prefix-out c = within (totalsText (c .before .before .end .result)) (replicate 57 0) (c .totals-text .ensures .0) (c .totals-text .ensures .1)
 
 slice-aggregate-write-all : tie.Need-slice-aggregate-write-all
-slice-aggregate-write-all c = within (totalsText (c .before .before .before .end .result)) (replicate 57 0) (c .before .totals-text .ensures .0) (c .before .totals-text .ensures .1) .1
+slice-aggregate-write-all c =
+    sym (length-take-le (c .before .totals-text .result) (c .before .totals-text .last .1 .0) (array-share-prefix-out (c .before)))
 
 write-all-requires : tie.Need-write-all-requires
 write-all-requires c κs = search needs

@@ -1,5 +1,5 @@
 -- The proof of the cycle of calls {put_decimal}. The measure is the number: a call of itself takes a tenth. Assumes nothing.
-use mathlib.Core.Path.{refl, sym, ap, _∙_}
+use mathlib.Core.Path.{refl, sym, ap}
 use Prim.Native.Nat.{ℕ, _≤_, _<_}
 use native.Mathlib.Nat.{mod-lt}
 use native.Mathlib.Omega.{arith}
@@ -7,7 +7,6 @@ use borrow.Author.Needs.{needs}
 use borrow.Fn.Kinds.{In}
 use borrow.Fn.PlainCycle.{Measures, is, falls, and}
 use lib.ListN.{length, length-set}
-use lib.Seq.{sets}
 use Rattle.text.proofs.Decimal.{tenth-less, one-digit, one-more}
 use Rattle.text.proofs.Stores.{one-more-put}
 use Rattle.text.proofs.put_decimal.Reads as put-decimal
