@@ -27,6 +27,7 @@ abbrev pub readOn : ℕ → List ℕ → ℕ
 readOn n [] = n
 readOn n (c ∷ cs) = readOn (n * 10 + (c - 48)) cs
 
+-- each of these bytes is a digit
 abbrev pub allDigits : List ℕ → Bool
 allDigits [] = true
 allDigits (c ∷ cs) = leb 48 c && leb c 57 && allDigits cs

@@ -1,16 +1,26 @@
 // The bytes that the script program prints (docs/FORMAT.md, The script program): a record's line, and the line of the totals. Each goes to the start
 // of a buffer that the caller lends.
 ghost use mathlib.Core.Path.{_≡_};
-ghost use Prim.Native.Nat.{_+_, _*_, _≤_};
-ghost use lib.ListN.{length};
+ghost use Prim.Native.Nat.{_+_, _*_, _≤_, _<_};
+ghost use lib.ListN.{length, set};
 ghost use lib.Seq.{sets};
-ghost use Rattle.text.specs.Decimal.{decimal};
+ghost use Rattle.text.specs.Decimal.{digit, decimal};
 ghost use Rattle.text.specs.Lines.{row, lineText, totalsText, putFirst};
 use calls::Totals;
 use records::Line;
 
 // The bytes of the longest line: a letter, five times a space and ten digits, a newline.
 pub const LONGEST_LINE: usize = 57;
+
+// Puts one digit into out at `at`. Answers where it ends.
+fn put_digit(d: u32, out: &mut [u8], at: usize) -> usize
+    requires { ⌜ (d < 10) × (at < length (now out)) ⌝ }
+    ensures { λ r. ⌜ r ≡ at + 1 ⌝ }
+    ensures { λ _. ⌜ now (out .exit) ≡ set (now (out .entry)) at (digit d) ⌝ }
+{
+    out[at] = 48 + d as u8;
+    at + 1
+}
 
 // Puts the digits of n into out from `at` on. Answers where they end.
 fn put_decimal(n: u32, out: &mut [u8], at: usize) -> usize
@@ -19,12 +29,10 @@ fn put_decimal(n: u32, out: &mut [u8], at: usize) -> usize
     ensures { λ _. ⌜ now (out .exit) ≡ sets (now (out .entry)) at (decimal n) ⌝ }
 {
     if n < 10 {
-        out[at] = 48 + n as u8;
-        return at + 1;
+        return put_digit(n, out, at);
     }
     let last = put_decimal(n / 10, out, at);
-    out[last] = 48 + (n % 10) as u8;
-    last + 1
+    put_digit(n % 10, out, last)
 }
 
 // Puts a letter, the numbers, each after a space, and a newline at the start of out, which has room for ten digits of each. Answers how many bytes
