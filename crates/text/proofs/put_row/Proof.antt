@@ -52,7 +52,7 @@ put-decimal-requires : tie.Need-put-decimal-requires Inv-loop μ-loop
 put-decimal-requires c κs =
     let loop = c .before .before .before .loop in
     let few = few-digits .1 _ (c .before .shared-slice-known2 .given (loop .i) .fits) in
-    omega (arith, loop .inv .2, few, length-set (loop .out) (loop .at) 32)
+    simp length-set (omega (arith, loop .inv .2, few))
 
 add-i : tie.Need-add-i Inv-loop μ-loop
 add-i c = search needs
@@ -69,7 +69,7 @@ loop-again c =
     let numbers = turn .before .before .before .before .args .numbers .now in
     let more = turn .loop-test .taken in
     let done = called .put-decimal .ensures in
-    let same = called .put-decimal .kept .1 .0 ∙ length-set (loop .out) (loop .at) 32 in
+    let same : length (called .put-decimal .last .1 .0) ≡ length (loop .out) = called .put-decimal .kept .1 .0 ∙ simp length-set in
     let few = few-digits .1 _ (known .shared-slice-known2 .given (loop .i) .fits) in (
       omega arith,
       same ∙ loop .inv .1,
