@@ -6,8 +6,9 @@
  *
  * runs rounds 0 to ROUNDS - 1, or as many as SECONDS allow, but four for each geometry at least, so that on a slow machine too all comes
  * about that has to. A round takes the next geometry of the list, makes an image (formatted; or well formed at random: blocks blank, open
- * and full, any erase counts, any dead entries) and does calls on it, few or many, some on an image that was damaged at one or two places,
- * some with numbers, lengths and geometries out of their range. The round's choices depend on SEED and its number alone.
+ * and full, any erase counts, entries complete and in passing, any dead slots) and does calls on it, few or many, some on an image that was
+ * damaged at one or two places, some with numbers, lengths and geometries out of their range. Now and then it makes of the image what
+ * placings leave that end early (passing.h). The round's choices depend on SEED and its number alone.
  *
  * Some calls are on an image with one to three planted faults (faults.h), in one block or in several. What was planted says which block
  * and rule have to be named, so there both sides are held against a third opinion as well.
@@ -17,8 +18,8 @@
  * one that the library builds afresh.
  *
  * At the first difference it prints both, the call and the first word that differs, and fails. At the end it fails too where some
- * refusal of some call, some rule that a call can name, some way that planted faults can hide one another, some kind of table in some
- * accepted call, or an erasure, never came about: then the inputs have missed it.
+ * refusal of some call, some rule that a call can name, some way that a fault can be planted or that planted faults can hide one another, some
+ * kind of table in some accepted call, something that an early end leaves, or an erasure, never came about: then the inputs have missed it.
  *
  * The tests of this test, each of which must find what is changed: compiled with -DSPOIL it changes one word after some calls; with
  * -DSPOIL_PAIR=bad_block or -DSPOIL_PAIR=bad_rule that number of the second side, after some calls that answered 4; and with
@@ -34,6 +35,7 @@
 
 #include "calls.h"
 #include "came_about.h"
+#include "passing.h"
 
 enum { SHORT_RUN = 48, LONG_RUN = 1500, ANSWERS = 7 };
 enum { RUBBISH = 77 }; /* what a call finds where it is to put a number: neither a block nor a rule */
@@ -164,10 +166,11 @@ static void make_ready(void)
 }
 
 /* The same table on each side, with a guard behind its last word. At the first place that is outside, in the guard of the image, the number
- * seems to be stored: who looks there is taken in. */
+ * seems to be stored, complete or in passing: who looks there is taken in. */
 static void lend_table(struct asked a, struct geometry g)
 {
     size_t bytes = a.table_words * sizeof *ours.table;
+    uint32_t decoy = (one_in(2) ? COMPLETE : IN_PASSING) + a.number;
     lent.kind = a.kind;
     lent.g = (struct geometry){g.blocks, g.sectors, (uint32_t)a.table_words};
     find_all(lent.g, ours.image, lent.places);
@@ -178,7 +181,7 @@ static void lend_table(struct asked a, struct geometry g)
         if (sides[s] != &ours)
             memcpy(sides[s]->table, ours.table, bytes);
         guard_end(sides[s]->table, a.table_words, sizeof *ours.table);
-        *entries_of(g, block_of(g, sides[s]->image, g.blocks)) = LIVE + a.number;
+        *entries_of(g, block_of(g, sides[s]->image, g.blocks)) = decoy;
     }
 }
 
@@ -246,6 +249,8 @@ static void count_call(struct asked a)
         erasures += ours.count[1];
     if (takes_table(a.call))
         count_table(a);
+    if (ours.answer == SHELLWALTZ_OK)
+        count_accepted(a, before, &ours, &lent);
 }
 
 /* What is changed for the tests of this test. */
@@ -336,8 +341,8 @@ static void hold_against(const struct planting *planted, struct asked a)
     exit(1);
 }
 
-/* Calls on an image that faults were planted in, and back. With another L other entries are faulty, and such a call may be accepted, as
- * a format is: then the image may be another one, and the planted faults say nothing of it. */
+/* Calls on an image that faults were planted in, and back. With another L other entries are live and faulty, and such a call may be accepted,
+ * as a format is: then the image may be another one, and the planted faults say nothing of it. */
 static void on_a_faulty_image(struct geometry g, uint32_t *kept)
 {
     static struct planting planted;
@@ -379,6 +384,23 @@ static void reclaim_again(struct asked a, struct geometry g, uint32_t *kept)
     }
 }
 
+/* A call, now and then on a number in passing, and more such where it reclaimed. With another L other entries in passing are live: where
+ * such a call was accepted, the image may not be well formed with the round's own L any more, and so it is put back. */
+static void some_call_on_the_image(struct geometry g, uint32_t *kept)
+{
+    struct asked a = some_call(g);
+    size_t n = words_of(g);
+    if (a.number < g.logical && one_in(6))
+        a.number = some_number_in_passing(g, ours.image, a.number);
+    compare_call(a, g);
+    if (writes(a.call) && ours.count[0] > 2 * SECTOR) /* more than its own sector was placed */
+        reclaim_again(a, g, kept);
+    if (a.g.logical != g.logical) {
+        memcpy(ours.image, before, n * sizeof *before);
+        copy_over(n);
+    }
+}
+
 static void one_round(uint32_t *kept)
 {
     struct geometry g = geometries[round_number % GEOMETRIES];
@@ -399,12 +421,13 @@ static void one_round(uint32_t *kept)
             on_a_damaged_image(g, kept);
         if (calls <= SHORT_RUN && (n <= SMALL_IMAGE || one_in(6)))
             on_a_faulty_image(g, kept);
-        struct asked a = some_call(g);
-        compare_call(a, g);
-        if (writes(a.call) && ours.count[0] > 2 * SECTOR) /* more than its own sector was placed */
-            reclaim_again(a, g, kept);
+        some_call_on_the_image(g, kept);
         if (one_in(12))
             keep_as_older(g, ours.image);
+        if (one_in(12)) {
+            end_placings_early(g, ours.image);
+            copy_over(n);
+        }
     }
 }
 
@@ -431,6 +454,7 @@ static void all_came_about(void)
         complete &= show_row((enum call)c);
     complete &= show_what_came_about();
     complete &= show_what_was_lent();
+    complete &= show_what_was_met_with();
     if (!complete)
         fail("the inputs have missed something");
     if (erasures == 0)
@@ -455,7 +479,7 @@ int main(int argc, char **argv)
     uint32_t *kept = make_words(longest, sizeof *kept);
     for (round_number = 0; round_number < rounds && (round_number < LEAST_ROUNDS || time(NULL) < end); round_number++)
         one_round(kept);
-    printf("compare: seed %llu, %u rounds over %d geometries, %lu calls alike, %lu erasures; calls by answer 0 to 6 | by rule 1 to 7:\n",
+    printf("compare: seed %llu, %u rounds over %d geometries, %lu calls alike, %lu erasures; calls by answer 0 to 6 | by rule 1 to 8:\n",
            (unsigned long long)seed, round_number, (int)GEOMETRIES, compared, erasures);
     all_came_about();
     return 0;

@@ -7,7 +7,10 @@
 #include "layers.h"
 
 enum { SECTOR = 128 };
-static const uint32_t ONES = 0xFFFFFFFFu, LIVE = 0xC0000000u;
+static const uint32_t ONES = 0xFFFFFFFFu;
+
+/* The upper three bits of an entry, and what they are in an entry that is complete and in one that is in passing. */
+static const uint32_t UPPER_BITS = 0xE0000000u, COMPLETE = 0xC0000000u, IN_PASSING = 0x80000000u;
 
 /* ---- Chance: splitmix64, so that a seed means the same everywhere. */
 
@@ -31,19 +34,28 @@ static bool one_in(uint32_t n)
     return below(n) == 0;
 }
 
-/* A word of the kinds that matter: any, all ones, none, one bit set or clear, a live entry, a small number, one near the ceiling. */
+/* A word of the kinds that matter: any, all ones, none, one bit set or clear, an entry that is complete or in passing, a small number, one
+ * near the ceiling. */
 static uint32_t odd_word(struct geometry g)
 {
+    uint32_t upper_bits = one_in(2) ? COMPLETE : IN_PASSING;
     switch (below(8)) {
     case 0: return ONES;
     case 1: return 0;
     case 2: return 1u << below(32);
     case 3: return ~(1u << below(32));
-    case 4: return LIVE + below(g.logical + 2);
+    case 4: return upper_bits + below(g.logical + 2);
     case 5: return below(g.logical + 2);
     case 6: return SHELLWALTZ_CEILING - 2 + below(5);
     default: return (uint32_t)chance();
     }
+}
+
+/* Any but all ones. */
+static uint32_t programmed_word(struct geometry g)
+{
+    uint32_t word = odd_word(g);
+    return word == ONES ? ~(1u << below(32)) : word;
 }
 
 /* ---- The parts of an image */
@@ -73,9 +85,43 @@ static uint32_t *contents_of(uint32_t *block, uint32_t slot)
     return block + (size_t)(slot + 1) * SECTOR;
 }
 
+/* ---- Entries and slots */
+
+static uint32_t number_in(uint32_t entry)
+{
+    return entry & ~UPPER_BITS;
+}
+
+static bool says_complete(struct geometry g, uint32_t entry)
+{
+    return (entry & UPPER_BITS) == COMPLETE && number_in(entry) < g.logical;
+}
+
+static bool says_passing(struct geometry g, uint32_t entry)
+{
+    return (entry & UPPER_BITS) == IN_PASSING && number_in(entry) < g.logical;
+}
+
+/* Whether the slot is live, where none of the image is superseded. */
 static bool says_live(struct geometry g, uint32_t entry)
 {
-    return entry >= LIVE && entry < LIVE + g.logical;
+    return says_complete(g, entry) || says_passing(g, entry);
+}
+
+static uint32_t *map_word_of(uint32_t *block, uint32_t slot)
+{
+    return block + 3 + slot / 32;
+}
+
+/* A free entry alone does not make a slot free: with a clear bit it is taken, and dead. */
+static bool is_free_slot(struct geometry g, uint32_t *block, uint32_t slot)
+{
+    return entries_of(g, block)[slot] == ONES && (*map_word_of(block, slot) >> slot % 32 & 1) == 1;
+}
+
+static void take_slot(uint32_t *block, uint32_t slot)
+{
+    *map_word_of(block, slot) &= ~(1u << slot % 32);
 }
 
 /* ---- Well-formed images */
@@ -92,57 +138,111 @@ static void fill_contents(uint32_t *contents)
         contents[j] = fill ^ (one_in(2) ? j : 0);
 }
 
-/* An entry that says neither free nor live nor fault: the upper three bits are not 110, and it is not all ones. */
+/* An entry that a dead slot can have: free, as the map bit is clear; replaced, released or not finished; in passing with a number of L or
+ * more; or any other that is not valid, or neither complete nor in passing. */
 static uint32_t dead_entry(struct geometry g)
 {
-    uint32_t entry = one_in(2) ? (one_in(2) ? 0x80000000u : 0x40000000u) + below(g.logical) : odd_word(g);
-    return entry == ONES || entry >> 29 == 6 ? entry & 0x7FFFFFFFu : entry;
+    uint32_t n = below(g.logical), entry = odd_word(g);
+    switch (below(6)) {
+    case 0: return ONES;
+    case 1: return n;
+    case 2: return 0x40000000u + n;
+    case 3: return 0xE0000000u + n;
+    case 4: return IN_PASSING + g.logical + (one_in(2) ? 0 : below(0x20000000u - g.logical));
+    default: return (entry & UPPER_BITS) == COMPLETE || says_passing(g, entry) ? entry & 0x7FFFFFFFu : entry;
+    }
 }
 
-/* A block in which `used` slots are taken, some of them by the next numbers of the list. */
-static void make_block(struct geometry g, uint32_t *block, uint32_t used, const uint32_t *numbers, uint32_t *next, uint32_t most_live)
+/* Words 1 and 2 of a full block whose live numbers are from the least to the greatest: the closest bounds, or loose ones. Where nothing is
+ * live in it (the least is above the greatest then), anything. But neither is all ones. */
+static void put_bounds(struct geometry g, uint32_t *block, uint32_t least, uint32_t greatest)
 {
-    uint32_t *map = block + 3, *entries = entries_of(g, block);
-    uint32_t slots = slots_of(g), least = ONES, greatest = 0, left = used;
+    if (least > greatest) {
+        block[1] = programmed_word(g);
+        block[2] = programmed_word(g);
+        return;
+    }
+    block[1] = one_in(2) ? least : below(least + 1);
+    block[2] = one_in(2) ? greatest : greatest + below(one_in(2) ? 3 : ONES - greatest);
+}
+
+/* The numbers that an image is to store, in any order. Those before the next one have their slots. */
+struct numbers {
+    uint32_t order[SHELLWALTZ_MOST_LOGICAL(64, 64)], next, end;
+};
+
+static void shuffle_numbers(struct numbers *numbers, struct geometry g)
+{
+    uint32_t *order = numbers->order;
+    for (uint32_t n = 0; n < g.logical; n++)
+        order[n] = n;
+    for (uint32_t n = g.logical; n > 1; n--) {
+        uint32_t other = below(n), kept = order[n - 1];
+        order[n - 1] = order[other];
+        order[other] = kept;
+    }
+    numbers->next = 0;
+    numbers->end = below(g.logical + 1);
+}
+
+/* What the slots of a block are that are not free: live and dead ones, dead ones alone, or dead ones that are taken and have no entry. */
+enum mix { LIVE_AND_DEAD, DEAD_ALONE, TAKEN_ALONE };
+
+/* Each number gets one slot, so none is complete and in passing as well. */
+static uint32_t some_entry(struct geometry g, enum mix mix, struct numbers *numbers)
+{
+    if (mix == TAKEN_ALONE)
+        return ONES;
+    if (mix == DEAD_ALONE || numbers->next == numbers->end || one_in(3))
+        return dead_entry(g);
+    return (one_in(4) ? IN_PASSING : COMPLETE) + numbers->order[numbers->next++];
+}
+
+/* A block in which `used` slots are not free. */
+static void make_block(struct geometry g, uint32_t *block, uint32_t used, enum mix mix, struct numbers *numbers)
+{
+    uint32_t *entries = entries_of(g, block), slots = slots_of(g), least = ONES, greatest = 0, left = used;
     block[0] = some_count();
     for (uint32_t i = 0; i < slots; i++) {
         if (below(slots - i) >= left)
             continue;
         left--;
-        map[i / 32] &= ~(1u << i % 32);
+        take_slot(block, i);
         fill_contents(contents_of(block, i));
-        if (*next < most_live && !one_in(3)) {
-            uint32_t n = numbers[(*next)++];
-            entries[i] = LIVE + n;
+        entries[i] = some_entry(g, mix, numbers);
+        if (says_live(g, entries[i])) {
+            uint32_t n = number_in(entries[i]);
             least = n < least ? n : least;
             greatest = n > greatest ? n : greatest;
-        } else {
-            entries[i] = dead_entry(g);
         }
     }
-    if (used == slots) {
-        block[1] = one_in(2) || least == 0 || least == ONES ? (least == ONES ? odd_word(g) : least) : below(least);
-        block[2] = one_in(2) && greatest != ONES ? greatest : greatest + below(3);
+    if (used == slots)
+        put_bounds(g, block, least, greatest);
+}
+
+/* How many slots of a block are used: all of them; all or any number of them; any number; or all or none, so that no block is open. */
+static uint32_t some_used(uint32_t style, uint32_t slots)
+{
+    switch (style) {
+    case 0: return slots;
+    case 1: return one_in(2) ? slots : below(slots + 1);
+    case 2: return below(slots + 1);
+    default: return one_in(2) ? slots : 0;
     }
 }
 
 /* A well-formed image with nothing in it that a run of writes would have to have made. */
 static void make_image(struct geometry g, uint32_t *image)
 {
-    static uint32_t numbers[SHELLWALTZ_MOST_LOGICAL(64, 64)];
-    uint32_t slots = slots_of(g), blank = below(g.blocks), next = 0, most_live = below(g.logical + 1), style = below(3);
-    for (uint32_t n = 0; n < g.logical; n++)
-        numbers[n] = n;
-    for (uint32_t n = g.logical; n > 1; n--) {
-        uint32_t other = below(n), kept = numbers[n - 1];
-        numbers[n - 1] = numbers[other];
-        numbers[other] = kept;
-    }
+    static struct numbers numbers;
+    uint32_t blank = below(g.blocks), style = below(4);
+    bool has_dead_blocks = one_in(3);
+    shuffle_numbers(&numbers, g);
     for (size_t w = 0; w < words_of(g); w++)
         image[w] = ONES;
     for (uint32_t b = 0; b < g.blocks; b++) {
-        uint32_t used = style == 0 ? slots : style == 1 ? (one_in(2) ? slots : below(slots + 1)) : below(slots + 1);
-        make_block(g, block_of(g, image, b), b == blank ? 0 : used, numbers, &next, most_live);
+        enum mix mix = has_dead_blocks && one_in(3) ? (one_in(2) ? DEAD_ALONE : TAKEN_ALONE) : LIVE_AND_DEAD;
+        make_block(g, block_of(g, image, b), b == blank ? 0 : some_used(style, slots_of(g)), mix, &numbers);
     }
 }
 
@@ -155,7 +255,7 @@ static void damage(struct geometry g, uint32_t *image)
     case 0: at = block; break;
     case 1: at = block + 1; break;
     case 2: at = block + 2; break;
-    case 3: at = block + 3 + i / 32; break;
+    case 3: at = map_word_of(block, i); break;
     case 4: at = block + 3 + map_words_of(g) - 1; break;
     case 5: at = entries_of(g, block) + i; break;
     case 6: at = block + SECTOR - 1; break;

@@ -11,7 +11,7 @@
 enum { MOST_SLOTS = 64 * 63, MOST_TABLE = MOST_SLOTS + 256 };
 
 /* What the words of a lent table are: where the numbers are; nowhere; any words; places that the image does not have; places of slots that are
- * dead, that hold another number, and that are free; and where the numbers were in an earlier image. */
+ * dead (also taken ones without an entry), that hold another number, and that are free; and where the numbers were in an earlier image. */
 enum table_kind { RIGHT, ALL_NOWHERE, ANY_WORDS, OUTSIDE, DEAD_SLOTS, OTHERS_SLOTS, FREE_SLOTS, OLDER, KINDS };
 static const char *const kind_names[KINDS] = {"right", "nowhere", "any words", "outside", "dead", "of others", "free", "older"};
 
@@ -35,15 +35,21 @@ static uint32_t entry_at(struct geometry g, uint32_t *image, uint32_t place)
     return entries_of(g, block_of(g, image, place / slots_of(g)))[place % slots_of(g)];
 }
 
-/* Where each number is stored: the words of a right table. */
+static bool is_free_at(struct geometry g, uint32_t *image, uint32_t place)
+{
+    return is_free_slot(g, block_of(g, image, place / slots_of(g)), place % slots_of(g));
+}
+
+/* Where each number is stored: the words of a right table. A number is where it is complete, and only without such a slot where it is in
+ * passing, on whichever side of it the complete one is. */
 static void find_all(struct geometry g, uint32_t *image, uint16_t *places)
 {
     for (uint32_t n = 0; n < g.logical; n++)
         places[n] = SHELLWALTZ_NOWHERE;
     for (uint32_t place = 0; place < places_of(g); place++) {
-        uint32_t entry = entry_at(g, image, place);
-        if (says_live(g, entry))
-            places[entry - LIVE] = (uint16_t)place;
+        uint32_t entry = entry_at(g, image, place), n = number_in(entry);
+        if (says_complete(g, entry) || (says_passing(g, entry) && places[n] == SHELLWALTZ_NOWHERE))
+            places[n] = (uint16_t)place;
     }
 }
 
@@ -57,13 +63,15 @@ static void keep_as_older(struct geometry g, uint32_t *image)
 
 /* ---- Filling */
 
-/* The places of all slots that a kind is made of; of a kind that is not made of slots, none. */
+/* The places of all slots that a kind is made of; of a kind that is not made of slots, none. Where a slot is superseded or faulty, every call
+ * is refused whatever it is lent. */
 static uint32_t list_slots(enum table_kind kind, struct geometry g, uint32_t *image, uint16_t *list)
 {
     uint32_t count = 0;
     for (uint32_t place = 0; place < places_of(g); place++) {
-        uint32_t entry = entry_at(g, image, place);
-        enum table_kind made_of_it = entry == ONES ? FREE_SLOTS : says_live(g, entry) ? OTHERS_SLOTS : DEAD_SLOTS;
+        enum table_kind made_of_it = is_free_at(g, image, place)               ? FREE_SLOTS
+                                     : says_live(g, entry_at(g, image, place)) ? OTHERS_SLOTS
+                                                                               : DEAD_SLOTS;
         if (made_of_it == kind)
             list[count++] = (uint16_t)place;
     }
@@ -154,13 +162,19 @@ static struct {
     unsigned long length[4][LENGTHS]; /* by build, read, write and release */
 } lent_so;
 
+/* The block that a write has erased, told by its erase count; the number of blocks if it has erased none. */
+static uint32_t erased_block(struct geometry g, uint32_t *before, uint32_t *after)
+{
+    uint32_t b = 0;
+    while (b < g.blocks && *block_of(g, before, b) == *block_of(g, after, b))
+        b++;
+    return b;
+}
+
 /* The deed of an accepted write; DEEDS for a reclaim that moved nothing, of which a table has nothing to tell. */
 static enum deed deed_of_write(const struct lending *lent, uint32_t *before, uint32_t *after, uint32_t number)
 {
-    uint32_t slots = slots_of(lent->g), moved = 0, erased = lent->g.blocks;
-    for (uint32_t b = 0; b < lent->g.blocks; b++)
-        if (*block_of(lent->g, before, b) != *block_of(lent->g, after, b))
-            erased = b;
+    uint32_t slots = slots_of(lent->g), moved = 0, erased = erased_block(lent->g, before, after);
     if (erased == lent->g.blocks)
         return WROTE;
     if (lent->places[number] / slots == erased)

@@ -19,7 +19,7 @@
  * What comes back: SHELLWALTZ_OK, or the first refusal below that applies, in the order of their numbers. A refused call changes no
  * word of the image, none of the buffer and none of the table, and gives 0 for every count. So a call either does all of its work or none.
  *
- * SHELLWALTZ_MALFORMED comes with the block and the rule (1 to 7, docs/FORMAT.md) that fail first: blocks in ascending order, and within a
+ * SHELLWALTZ_MALFORMED comes with the block and the rule (1 to 8, docs/FORMAT.md) that fail first: blocks in ascending order, and within a
  * block its rules in the order of their numbers. A number that is stored in two slots is charged to the block of the later one. Rule 6, that
  * some block is blank, is the whole image's: it is named last, with `blocks` as the bad block. With every other answer, *bad_block and
  * *bad_rule are 0.
@@ -69,9 +69,9 @@ uint32_t shellwaltz_format(uint32_t blocks, uint32_t sectors, uint32_t logical, 
 uint32_t shellwaltz_check(uint32_t blocks, uint32_t sectors, uint32_t logical, const uint32_t *image, size_t image_words,
                           uint32_t *bad_block, uint32_t *bad_rule);
 
-/* How many slots hold a stored sector (*mapped), are free (*free_slots) and are dead (*dead: replaced, released or never finished; their
- * room comes back when their block is erased), and the sum of all blocks' erase counts (*erase_sum). Refuses 1 and 4. Changes no word
- * of the image. */
+/* How many slots hold a stored sector (*mapped), are free (*free_slots) and are dead (*dead: replaced, released, or taken and never
+ * finished; their room comes back when their block is erased), and the sum of all blocks' erase counts (*erase_sum). Refuses 1 and 4.
+ * Changes no word of the image. */
 uint32_t shellwaltz_report(uint32_t blocks, uint32_t sectors, uint32_t logical, const uint32_t *image, size_t image_words,
                            uint32_t *mapped, uint32_t *free_slots, uint32_t *dead, uint32_t *erase_sum,
                            uint32_t *bad_block, uint32_t *bad_rule);
@@ -242,12 +242,14 @@ static inline const char *shellwaltz_rule_meaning(uint32_t rule)
     switch (rule) {
     case 0: return "No rule is named.";
     case 1: return "The erase count of the block is above 1000000.";
-    case 2: return "The free map of the block does not agree with its entries, or has a bit clear that belongs to no slot.";
+    case 2: return "The free map of the block shows a slot as free whose entry is in use, or has a bit clear that belongs to no slot.";
     case 3: return "A free slot of the block has contents that are not all ones.";
     case 4: return "An entry of the block is marked as stored, under a number that no logical sector has.";
     case 5: return "A number is stored in the block that is also stored in an earlier slot, of it or of a block before it.";
     case 6: return "No block is blank.";
-    case 7: return "Word 1 or 2 of the block is programmed while a slot is free, or does not bound the numbers of a full block.";
+    case 7:
+        return "Word 1 or 2 of the block is programmed while a slot is free, or is all ones in a full block, or does not bound its numbers.";
+    case 8: return "A slot of the block is about to be replaced by another slot that is complete already.";
     default: return "This is not a rule of the format.";
     }
 }

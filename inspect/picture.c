@@ -7,21 +7,23 @@
 /* All lengths are in pixels. From left to right: the block's kind and number, a cell for each slot, the number again, the bar of the erase
  * count, the count, and the rules that the block breaks. */
 static const uint32_t MARGIN = 16, LABELS = 76, PITCH = 27, CELL_WIDTH = 26, ROW = 19, CELL_HEIGHT = 17, NUMBERS = 36, BAR = 120, COUNTS = 84,
-                      RULES_WIDTH = 210, LEAST_WIDTH = 760;
+                      RULES_WIDTH = 260, LEAST_WIDTH = 840;
 static const uint32_t LETTER = 7, LARGE_LETTER = 11, LINE_HEIGHT = 18, BASELINE = 13, KEY_WIDTH = 128, SPACE = 8;
 
 /* What stands in the cell of a faulty slot. */
 #define FAULT_SIGN "!"
 
-/* The fills differ in lightness, from white over sky blue and vermilion to dark grey, so that they can be told apart without their hues as
- * well. The mark of a slot that breaks a rule is black with white inside it, so that it shows on each of them. */
+/* The fills differ in lightness, from white over sky blue, vermilion and blue to dark grey, so that they can be told apart without their hues as
+ * well. The blue of a superseded slot is too dark for black letters: its number, which follows the cell and its mark, or its key, is white. The mark of
+ * a slot that breaks a rule is black with white inside it, so that it shows on each of them. */
 static const char style[] = "<style>"
                             "text{font:12px sans-serif;fill:#000}"
                             ".name{font-weight:bold;font-size:16px}"
                             ".slot,.in{font-size:10px;text-anchor:middle;pointer-events:none}"
                             ".label,.row,.corner{text-anchor:end}"
                             ".ground{fill:#fff}"
-                            ".free{fill:#fff}.live{fill:#56b4e9}.dead{fill:#4d4d4d}.faulty{fill:#d55e00}"
+                            ".free{fill:#fff}.live{fill:#56b4e9}.dead{fill:#4d4d4d}.superseded{fill:#0072b2}.faulty{fill:#d55e00}"
+                            ".superseded+.in,.superseded+.mark+.inner+.in{fill:#fff}"
                             ".cell,.key{stroke:#888;stroke-width:1}"
                             ".mark{fill:none;stroke:#000;stroke-width:3;pointer-events:none}"
                             ".inner{fill:none;stroke:#fff;stroke-width:1;pointer-events:none}"
@@ -142,9 +144,10 @@ static void print_legend(FILE *out, uint32_t y)
     print_key(out, 0, y, "key free", "", "free");
     print_key(out, 1, y, "key live", "17", "live, sector 17");
     print_key(out, 2, y, "key dead", "", "dead");
-    print_key(out, 3, y, "key faulty", FAULT_SIGN, "faulty entry");
-    print_key(out, 4, y, "ground", "", "marked: breaks a rule");
-    print_mark(out, MARGIN + 4 * KEY_WIDTH, y);
+    print_key(out, 3, y, "key superseded", "17", "superseded");
+    print_key(out, 4, y, "key faulty", FAULT_SIGN, "faulty entry");
+    print_key(out, 5, y, "ground", "", "marked: breaks a rule");
+    print_mark(out, MARGIN + 5 * KEY_WIDTH, y);
 }
 
 /* The name of the file without its folders. */
@@ -178,30 +181,44 @@ static struct sentence faults_of_slot(const struct slot *slot)
 {
     struct sentence faults = {""};
     size_t length = 0, room = sizeof faults.text;
-    if (has_wrong_map_bit(slot))
-        length += (size_t)snprintf(faults.text, room, "; breaks R2: its map bit is %s", slot->map_bit ? "set" : "clear");
+    if (has_stale_map_bit(slot))
+        length += (size_t)snprintf(faults.text, room, "; breaks R2: its map bit is set");
     if (is_stained(slot))
         length += (size_t)snprintf(faults.text + length, room - length, "; breaks R3: word %u of its contents is not all ones", slot->first_stain);
     if (slot->kind == FAULTY)
         length += (size_t)snprintf(faults.text + length, room - length, "; breaks R4: there is no logical sector %u", slot->number);
     if (slot->is_repeat)
-        snprintf(faults.text + length, room - length, "; breaks R5: its number is live in block %u slot %u as well", slot->first.block,
-                 slot->first.slot);
+        length += (size_t)snprintf(faults.text + length, room - length, "; breaks R5: its number is live in block %u slot %u as well",
+                                   slot->first.block, slot->first.slot);
+    if (slot->kind == SUPERSEDED)
+        snprintf(faults.text + length, room - length, "; breaks R8: block %u slot %u has a complete entry", slot->complete.block,
+                 slot->complete.slot);
     return faults;
+}
+
+/* Whether the slot has the contents of a logical sector, be they the present ones or not. */
+static bool has_sector(const struct slot *slot)
+{
+    return slot->kind == LIVE || slot->kind == SUPERSEDED;
 }
 
 static void print_title_of_slot(FILE *out, const struct slot *slot, struct place at, const char *faults)
 {
     fprintf(out, "<title>block %u slot %u: %s, ", at.block, at.slot, name_of_slot_kind(slot->kind));
-    if (slot->kind == LIVE)
+    if (has_sector(slot))
         fprintf(out, "sector %u, ", slot->number);
-    fprintf(out, "entry 0x%08X%s", slot->entry, faults);
+    fprintf(out, "entry 0x%08X", slot->entry);
+    if (is_live_in_passing(slot))
+        fputs("; in passing", out);
+    if (is_taken(slot))
+        fputs("; taken, with a free entry", out);
+    fputs(faults, out);
     if (slot->is_repeated)
         fprintf(out, "; its number is live again in block %u slot %u", slot->next.block, slot->next.slot);
     fputs("</title>", out);
 }
 
-/* With the number of a live slot: it has four digits at most, and they fit. */
+/* With the number of a live or superseded slot: it has four digits at most, and they fit. */
 static void print_cell(FILE *out, const struct slot *slot, struct place at, uint32_t x, uint32_t y)
 {
     struct sentence faults = faults_of_slot(slot);
@@ -210,7 +227,7 @@ static void print_cell(FILE *out, const struct slot *slot, struct place at, uint
     fputs("</rect>\n", out);
     if (*faults.text != '\0')
         print_mark(out, x, y);
-    if (slot->kind == LIVE)
+    if (has_sector(slot))
         print_number(out, "in", x + CELL_WIDTH / 2, y, slot->number);
     if (slot->kind == FAULTY)
         print_text(out, "in", x + CELL_WIDTH / 2, y, FAULT_SIGN);
@@ -222,9 +239,9 @@ static void print_label(FILE *out, const struct block *block, uint32_t b, uint32
 {
     const char *kind = name_of_block_kind(block->kind);
     begin_text(out, "label", x, y);
-    fprintf(out, "<title>block %u: %s, %u free, %u live, %u dead, %u faulty; word 1 is %s, word 2 is %s</title>%s %u</text>\n", b, kind,
-            block->count[FREE], block->count[LIVE], block->count[DEAD], block->count[FAULTY], word_in_words(block->words[LEAST_WORD]).text,
-            word_in_words(block->words[GREATEST_WORD]).text, kind, b);
+    fprintf(out, "<title>block %u: %s, %u free, %u live, %u dead, %u superseded, %u faulty; word 1 is %s, word 2 is %s</title>%s %u</text>\n", b, kind,
+            block->count[FREE], block->count[LIVE], block->count[DEAD], block->count[SUPERSEDED], block->count[FAULTY],
+            word_in_words(block->words[LEAST_WORD]).text, word_in_words(block->words[GREATEST_WORD]).text, kind, b);
 }
 
 /* In proportion to the greatest count, and never too short to be seen. A count above the ceiling has a bar of its own colour, as long as any. */

@@ -54,10 +54,9 @@ static bool breaks_rule_2(const struct survey *s, uint32_t b, struct sentence *p
     for (uint32_t i = 0; i < s->slots; i++) {
         const struct slot *slot = &s->blocks[b].slots[i];
         uint32_t word = MAP_WORD + i / MAP_BITS;
-        if (has_wrong_map_bit(slot))
-            return say(place, "slot %u's map bit, bit %u of word %u (byte 0x%lX of the file), is %s while its entry is 0x%08X; it should be %s", i,
-                       i % MAP_BITS, word, byte_of(s, s->blocks[b].words + word), slot->map_bit ? "set" : "clear", slot->entry,
-                       slot->map_bit ? "clear" : "set");
+        if (has_stale_map_bit(slot))
+            return say(place, "slot %u's map bit, bit %u of word %u (byte 0x%lX of the file), is set while its entry is 0x%08X; it should be clear", i,
+                       i % MAP_BITS, word, byte_of(s, s->blocks[b].words + word), slot->entry);
     }
     return is_clear_beyond_slots(s, b, place);
 }
@@ -138,7 +137,7 @@ static bool is_bounded_too_early(const struct survey *s, uint32_t b, struct sent
                word_in_words(block->words[word]).text, i, ALL_ONES);
 }
 
-/* A word of a full block, and its live numbers: whether one of them is below word 1, or above word 2. */
+/* A word of a full block that is not all ones, and its live numbers: whether one of them is below word 1, or above word 2. */
 static bool is_out_of_bounds(const struct survey *s, uint32_t b, uint32_t word, struct sentence *place)
 {
     const struct block *block = &s->blocks[b];
@@ -152,22 +151,45 @@ static bool is_out_of_bounds(const struct survey *s, uint32_t b, uint32_t word, 
         best = !found || (is_least ? n < best : n > best) ? n : best;
         found = true;
     }
-    return found && say(place, "word %u (byte 0x%lX of the file) is %s while number %u is live in slot %u; it should be at %s %u", word,
-                        byte_of(s, block->words + word), word_in_words(bound).text, block->slots[first].number, first,
-                        is_least ? "most" : "least", best);
+    return found && say(place, "word %u (byte 0x%lX of the file) is %u while number %u is live in slot %u; it should be at %s %u", word,
+                        byte_of(s, block->words + word), bound, block->slots[first].number, first, is_least ? "most" : "least", best);
+}
+
+/* Word 1 or 2 of a full block. All ones are wrong by themselves, whether or not the live numbers are within them. */
+static bool is_bad_bound(const struct survey *s, uint32_t b, uint32_t word, struct sentence *place)
+{
+    const uint32_t *bound = s->blocks[b].words + word;
+    if (*bound == ALL_ONES)
+        return say(place, "word %u (byte 0x%lX of the file) is 0x%X while no slot is free; it should not be all ones", word, byte_of(s, bound),
+                   ALL_ONES);
+    return is_out_of_bounds(s, b, word, place);
 }
 
 static bool breaks_rule_7(const struct survey *s, uint32_t b, struct sentence *place)
 {
     if (s->blocks[b].kind != FULL)
         return is_bounded_too_early(s, b, place);
-    return is_out_of_bounds(s, b, LEAST_WORD, place) || is_out_of_bounds(s, b, GREATEST_WORD, place);
+    return is_bad_bound(s, b, LEAST_WORD, place) || is_bad_bound(s, b, GREATEST_WORD, place);
+}
+
+static bool breaks_rule_8(const struct survey *s, uint32_t b, struct sentence *place)
+{
+    for (uint32_t i = 0; i < s->slots; i++) {
+        const struct slot *slot = &s->blocks[b].slots[i];
+        uint32_t word = entry_word(s, i);
+        if (slot->kind == SUPERSEDED)
+            return say(place,
+                       "slot %u's entry, word %u (byte 0x%lX of the file), is 0x%08X while block %u slot %u has a complete entry for number %u; "
+                       "bit 31 should be clear",
+                       i, word, byte_of(s, s->blocks[b].words + word), slot->entry, slot->complete.block, slot->complete.slot, slot->number);
+    }
+    return false;
 }
 
 bool is_broken(const struct survey *s, uint32_t block, uint32_t rule, struct sentence *place)
 {
     static bool (*const breaks[RULES + 1])(const struct survey *, uint32_t, struct sentence *) = {
-        NULL, breaks_rule_1, breaks_rule_2, breaks_rule_3, breaks_rule_4, breaks_rule_5, breaks_rule_6, breaks_rule_7};
+        NULL, breaks_rule_1, breaks_rule_2, breaks_rule_3, breaks_rule_4, breaks_rule_5, breaks_rule_6, breaks_rule_7, breaks_rule_8};
     return rule >= 1 && rule <= RULES && (block == s->part.blocks) == (rule == 6) && breaks[rule](s, block, place);
 }
 

@@ -4,7 +4,7 @@
 
 #include "survey.h"
 
-enum { RULES = 7, SENTENCE = 640 };
+enum { RULES = 8, SENTENCE = 640 };
 
 struct sentence {
     char text[SENTENCE];

@@ -1,25 +1,43 @@
 #include "survey.h"
 
 static const uint32_t NUMBER_BITS = 0x1FFFFFFFu;
-static const uint32_t STORED = 6; /* bits 31 to 29 of an entry that is valid, current and finished */
 
-static enum slot_kind kind_of(uint32_t entry, uint32_t logical)
+/* Bits 31 to 29 of an entry: valid, current and finished; valid and finished, and not current any more. */
+static const uint32_t COMPLETE = 6, IN_PASSING = 4;
+
+/* Once the complete entries of the whole image are known. */
+static enum slot_kind kind_of(const struct survey *s, const struct slot *slot)
 {
-    if (entry == ALL_ONES)
-        return FREE;
-    if (entry >> 29 != STORED)
+    uint32_t state = slot->entry >> 29;
+    bool is_below = slot->number < s->part.logical;
+    if (slot->entry == ALL_ONES)
+        return slot->map_bit ? FREE : DEAD;
+    if (state == COMPLETE)
+        return is_below ? LIVE : FAULTY;
+    if (state != IN_PASSING || !is_below)
         return DEAD;
-    return (entry & NUMBER_BITS) < logical ? LIVE : FAULTY;
+    return s->numbers[slot->number].has_complete ? SUPERSEDED : LIVE;
 }
 
-bool has_wrong_map_bit(const struct slot *slot)
+/* A set bit over a free entry makes a free slot, so in any other slot it is over an entry in use. */
+bool has_stale_map_bit(const struct slot *slot)
 {
-    return slot->map_bit != (slot->kind == FREE);
+    return slot->map_bit && slot->kind != FREE;
 }
 
 bool is_stained(const struct slot *slot)
 {
     return slot->kind == FREE && slot->first_stain < SHELLWALTZ_SECTOR_WORDS;
+}
+
+bool is_live_in_passing(const struct slot *slot)
+{
+    return slot->kind == LIVE && slot->entry >> 29 == IN_PASSING;
+}
+
+bool is_taken(const struct slot *slot)
+{
+    return slot->kind == DEAD && slot->entry == ALL_ONES;
 }
 
 uint32_t entry_word(const struct survey *s, uint32_t slot)
@@ -61,25 +79,44 @@ static void meet_number(struct survey *s, struct slot *slot, struct place at)
     first_slot->is_repeated = true;
 }
 
-static void survey_slot(struct survey *s, struct place at)
+/* What its words say of a slot by itself, and whether it is the first with a complete entry for its number. */
+static void read_slot(struct survey *s, struct place at)
 {
     struct block *block = &s->blocks[at.block];
     struct slot *slot = &block->slots[at.slot];
     slot->entry = block->words[entry_word(s, at.slot)];
-    slot->kind = kind_of(slot->entry, s->part.logical);
     slot->number = slot->entry & NUMBER_BITS;
     slot->map_bit = block->words[MAP_WORD + at.slot / MAP_BITS] >> at.slot % MAP_BITS & 1;
+    if (slot->entry >> 29 == COMPLETE && slot->number < s->part.logical && !s->numbers[slot->number].has_complete) {
+        s->numbers[slot->number].has_complete = true;
+        s->numbers[slot->number].complete = at;
+    }
+}
+
+static void read_block(struct survey *s, uint32_t b)
+{
+    s->blocks[b].words = s->part.image + (size_t)b * s->part.sectors * SHELLWALTZ_SECTOR_WORDS;
+    for (uint32_t i = 0; i < s->slots; i++)
+        read_slot(s, (struct place){b, i});
+}
+
+static void survey_slot(struct survey *s, struct place at)
+{
+    struct block *block = &s->blocks[at.block];
+    struct slot *slot = &block->slots[at.slot];
+    slot->kind = kind_of(s, slot);
     if (slot->kind == FREE)
         slot->first_stain = first_stain(contents_of(s, at));
     if (slot->kind == LIVE)
         meet_number(s, slot, at);
+    if (slot->kind == SUPERSEDED)
+        slot->complete = s->numbers[slot->number].complete;
     block->count[slot->kind]++;
 }
 
 static void survey_block(struct survey *s, uint32_t b)
 {
     struct block *block = &s->blocks[b];
-    block->words = s->part.image + (size_t)b * s->part.sectors * SHELLWALTZ_SECTOR_WORDS;
     for (uint32_t i = 0; i < s->slots; i++)
         survey_slot(s, (struct place){b, i});
     block->kind = block->count[FREE] == s->slots ? BLANK : block->count[FREE] == 0 ? FULL : OPEN;
@@ -89,6 +126,9 @@ void survey(struct survey *s, struct shellwaltz_part part)
 {
     *s = (struct survey){.part = part, .slots = part.sectors - 1};
     s->map_words = (s->slots + MAP_BITS - 1) / MAP_BITS;
+    /* all entries first: what an entry in passing is may be decided by a slot after it */
+    for (uint32_t b = 0; b < part.blocks; b++)
+        read_block(s, b);
     for (uint32_t b = 0; b < part.blocks; b++)
         survey_block(s, b);
 }

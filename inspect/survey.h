@@ -14,7 +14,7 @@ static const uint32_t COUNT_WORD = 0, LEAST_WORD = 1, GREATEST_WORD = 2, MAP_WOR
 _Static_assert(_Generic((uint32_t)0, unsigned: 1, default: 0), "words are printed with %u and %X");
 static const uint32_t ALL_ONES = 0xFFFFFFFFu;
 
-enum slot_kind { FREE, LIVE, DEAD, FAULTY, SLOT_KINDS };
+enum slot_kind { FREE, LIVE, DEAD, SUPERSEDED, FAULTY, SLOT_KINDS };
 enum block_kind { BLANK, OPEN, FULL };
 
 struct place {
@@ -24,13 +24,14 @@ struct place {
 struct slot {
     enum slot_kind kind;
     uint32_t entry;
-    uint32_t number;        /* of a live slot, and of a faulty one */
+    uint32_t number;        /* of a live, a superseded or a faulty slot */
     bool map_bit;           /* the slot's bit in the free map */
     uint32_t first_stain;   /* of a free slot: the first word of its contents that is not all ones, or SHELLWALTZ_SECTOR_WORDS */
     bool is_repeat;         /* of a live slot: an earlier slot is live for its number too */
     struct place first;     /* and the first one that is */
     bool is_repeated;       /* of a live slot: it is the first for its number, and not the only one */
     struct place next;      /* and the second one */
+    struct place complete;  /* of a superseded slot: the first one with a complete entry for its number */
 };
 
 struct block {
@@ -45,17 +46,23 @@ struct survey {
     uint32_t slots, map_words; /* of a block: d and k */
     struct block blocks[MOST_BLOCKS];
     struct {
-        bool is_live;
-        struct place first;
+        bool is_live;          /* some slot is live for it */
+        struct place first;    /* and the first one that is */
+        bool has_complete;     /* some slot has a complete entry for it */
+        struct place complete; /* and the first one that has */
     } numbers[MOST_NUMBERS];
 };
 
 /* Of a part whose geometry is within its limits and whose image has the words for it. */
 void survey(struct survey *s, struct shellwaltz_part part);
 
-/* What R2 and R3 forbid of a slot: a map bit that does not go with its entry; contents in a free slot. */
-bool has_wrong_map_bit(const struct slot *slot);
+/* What R2 and R3 forbid of a slot: a map bit that is set while its entry is in use; contents in a free slot. */
+bool has_stale_map_bit(const struct slot *slot);
 bool is_stained(const struct slot *slot);
+
+/* What two kinds do not tell of a slot: of a live one, that its entry is in passing; of a dead one, that it was taken and its entry is free. */
+bool is_live_in_passing(const struct slot *slot);
+bool is_taken(const struct slot *slot);
 
 /* Where the entry of a slot stands in its block, and the contents. */
 uint32_t entry_word(const struct survey *s, uint32_t slot);

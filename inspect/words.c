@@ -12,7 +12,7 @@ const char *name_of_block_kind(enum block_kind kind)
 
 const char *name_of_slot_kind(enum slot_kind kind)
 {
-    static const char *const names[] = {"free", "live", "dead", "faulty"};
+    static const char *const names[] = {"free", "live", "dead", "superseded", "faulty"};
     return names[kind];
 }
 
@@ -29,15 +29,15 @@ struct sentence rules_broken_by(const struct survey *s, uint32_t block)
 
 static void print_table(FILE *out, const struct survey *s)
 {
-    fprintf(out, "%5s  %5s  %11s  %4s  %4s  %4s  %6s  %10s  %10s  %s\n", "Block", "Kind", "Erase count", "Free", "Live", "Dead", "Faulty", "Word 1",
-            "Word 2", "Breaks");
+    fprintf(out, "%5s  %5s  %11s  %4s  %4s  %4s  %10s  %6s  %10s  %10s  %s\n", "Block", "Kind", "Erase count", "Free", "Live", "Dead", "Superseded",
+            "Faulty", "Word 1", "Word 2", "Breaks");
     for (uint32_t b = 0; b < s->part.blocks; b++) {
         const struct block *block = &s->blocks[b];
         struct sentence broken = rules_broken_by(s, b);
-        fprintf(out, "%5u  %5s  %11s  %4u  %4u  %4u  %6u  %10s  %10s%s%s\n", b, name_of_block_kind(block->kind),
-                word_in_words(block->words[COUNT_WORD]).text, block->count[FREE], block->count[LIVE], block->count[DEAD], block->count[FAULTY],
-                word_in_words(block->words[LEAST_WORD]).text, word_in_words(block->words[GREATEST_WORD]).text, *broken.text == '\0' ? "" : "  ",
-                broken.text);
+        fprintf(out, "%5u  %5s  %11s  %4u  %4u  %4u  %10u  %6u  %10s  %10s%s%s\n", b, name_of_block_kind(block->kind),
+                word_in_words(block->words[COUNT_WORD]).text, block->count[FREE], block->count[LIVE], block->count[DEAD], block->count[SUPERSEDED],
+                block->count[FAULTY], word_in_words(block->words[LEAST_WORD]).text, word_in_words(block->words[GREATEST_WORD]).text,
+                *broken.text == '\0' ? "" : "  ", broken.text);
     }
 }
 
@@ -73,8 +73,8 @@ static void print_next_reclaim(FILE *out, const struct survey *s)
 
 static void print_totals(FILE *out, const struct survey *s, bool is_well_formed)
 {
-    fprintf(out, "Slots: %u in all, %u live, %u free, %u dead, %u faulty.\n", s->part.blocks * s->slots, slots_of_kind(s, LIVE),
-            slots_of_kind(s, FREE), slots_of_kind(s, DEAD), slots_of_kind(s, FAULTY));
+    fprintf(out, "Slots: %u in all, %u live, %u free, %u dead, %u superseded, %u faulty.\n", s->part.blocks * s->slots, slots_of_kind(s, LIVE),
+            slots_of_kind(s, FREE), slots_of_kind(s, DEAD), slots_of_kind(s, SUPERSEDED), slots_of_kind(s, FAULTY));
     print_erase_counts(out, s);
     if (is_well_formed)
         print_next_reclaim(out, s);

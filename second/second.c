@@ -15,7 +15,8 @@
 #define CURRENT_BIT UINT32_C(0x40000000)
 #define STATE_MASK UINT32_C(0xE0000000)
 #define STATE_WRITING UINT32_C(0xE0000000)
-#define STATE_LIVE UINT32_C(0xC0000000)
+#define STATE_COMPLETE UINT32_C(0xC0000000)
+#define STATE_PASSING UINT32_C(0x80000000)
 #define NUMBER_MASK UINT32_C(0x1FFFFFFF)
 #define FREE_ENTRY ONES
 
@@ -146,13 +147,50 @@ static bool all_ones(const uint32_t *sector)
 
 /* ---- Entries ----------------------------------------------------------- */
 
-/* True of live entries and of faults; in a well-formed image, of live only. */
-static bool looks_live(uint32_t entry)
+static uint32_t number_of(uint32_t entry)
 {
-    return (entry & STATE_MASK) == STATE_LIVE;
+    return entry & NUMBER_MASK;
+}
+
+/* True of faults too, which have a number that is too large. */
+static bool is_complete(uint32_t entry)
+{
+    return (entry & STATE_MASK) == STATE_COMPLETE;
+}
+
+/* In passing: about to give way to a newer copy of its number.  With a number
+ * that is too large there is nothing to hold on to, and it is merely dead. */
+static bool is_passing(struct second_geometry g, uint32_t entry)
+{
+    return (entry & STATE_MASK) == STATE_PASSING &&
+           number_of(entry) < g.logical;
+}
+
+/* In a well-formed image, where no entry is a fault and none in passing has
+ * been overtaken by the newer copy.  Then no other slot has to be asked. */
+static bool is_live(struct second_geometry g, uint32_t entry)
+{
+    return is_complete(entry) || is_passing(g, entry);
+}
+
+/* The same of a number below L, complete or in passing. */
+static bool is_live_for(uint32_t entry, uint32_t number)
+{
+    return (entry | CURRENT_BIT) == (STATE_COMPLETE | number);
 }
 
 /* ---- Check ------------------------------------------------------------- */
+
+/* What is known of the numbers, a bit for each. */
+struct marks {
+    uint32_t complete[MARK_WORDS]; /* anywhere, once there is one in passing */
+    uint32_t live[MARK_WORDS];     /* in a slot already looked at */
+};
+
+static bool marked(const uint32_t *marks, uint32_t number)
+{
+    return (marks[number / 32u] >> (number % 32u) & 1u) != 0u;
+}
 
 /* Marks the number; false when it already was. */
 static bool mark(uint32_t *marks, uint32_t number)
@@ -164,6 +202,36 @@ static bool mark(uint32_t *marks, uint32_t number)
     return fresh;
 }
 
+/* Goes over all entries of the image: what supersedes an entry in passing may
+ * lie behind it. */
+static void mark_complete(struct second_geometry g, const uint32_t *image,
+                          uint32_t *complete)
+{
+    uint32_t slots = second_slots(g);
+
+    for (uint32_t block = 0; block < g.blocks; block++) {
+        const uint32_t *entries =
+            image + entry_place(g, (struct spot){block, 0});
+
+        for (uint32_t slot = 0; slot < slots; slot++)
+            if (is_complete(entries[slot]) &&
+                number_of(entries[slot]) < g.logical)
+                (void)mark(complete, number_of(entries[slot]));
+    }
+}
+
+static bool any_passing(struct second_geometry g, const uint32_t *head)
+{
+    const uint32_t *entries = head + FREE_MAP + second_map_words(g);
+    uint32_t slots = second_slots(g);
+    uint32_t any = 0;
+
+    /* A plain fold again. */
+    for (uint32_t slot = 0; slot < slots; slot++)
+        any |= is_passing(g, entries[slot]) ? 1u : 0u;
+    return any != 0u;
+}
+
 /* What one look at a block gives. */
 struct findings {
     uint32_t broken; /* the rules that the block breaks */
@@ -172,17 +240,12 @@ struct findings {
     uint32_t greatest;
 };
 
-/* R4 and R5 for an entry that looks live.  Marked are the numbers of the slots
- * before it, so of two slots with one number the later is found at fault. */
-static void inspect_number(struct second_geometry g, uint32_t number,
-                           uint32_t *marks, struct findings *found)
+/* R5.  Marked are the numbers of the slots before this one, so of two slots
+ * with one number the later is found at fault. */
+static void inspect_live(uint32_t number, uint32_t *live,
+                         struct findings *found)
 {
-    if (number >= g.logical) {
-        /* Not live, and it has no place among the marks. */
-        found->broken |= RULE(4);
-        return;
-    }
-    if (!mark(marks, number))
+    if (!mark(live, number))
         found->broken |= RULE(5);
     if (number < found->least)
         found->least = number;
@@ -190,59 +253,83 @@ static void inspect_number(struct second_geometry g, uint32_t number,
         found->greatest = number;
 }
 
-/* R3 to R5 for the slots of one word of the free map.  Gives the word that R2
- * asks for: a bit is set where the slot is free and where there is none. */
-static uint32_t inspect_slots(struct second_geometry g, const uint32_t *head,
-                              uint32_t first, uint32_t *marks,
-                              struct findings *found)
+/* R4, R5 and rule 8 for an entry in use. */
+static void inspect_entry(struct second_geometry g, uint32_t entry,
+                          struct marks *marks, struct findings *found)
+{
+    uint32_t number = number_of(entry);
+
+    if (is_complete(entry)) {
+        if (number < g.logical)
+            inspect_live(number, marks->live, found);
+        else /* not live, and it has no place among the marks */
+            found->broken |= RULE(4);
+    } else if (is_passing(g, entry)) {
+        if (marked(marks->complete, number))
+            found->broken |= RULE(8); /* superseded, so not live */
+        else
+            inspect_live(number, marks->live, found);
+    }
+}
+
+/* R2 to R5 and rule 8 for the slots of one word of the free map. */
+static void inspect_slots(struct second_geometry g, const uint32_t *head,
+                          uint32_t first, struct marks *marks,
+                          struct findings *found)
 {
     const uint32_t *entries = head + FREE_MAP + second_map_words(g);
     const uint32_t *contents = head + SECOND_SECTOR_WORDS;
+    uint32_t map = head[FREE_MAP + first / MAP_BITS];
     uint32_t rest = second_slots(g) - first;
     uint32_t end = first + (rest < MAP_BITS ? rest : MAP_BITS);
-    uint32_t asked = ONES;
+    uint32_t asked = ONES; /* the bits to be set if all of them are right */
 
     for (uint32_t slot = first; slot < end; slot++) {
         uint32_t entry = entries[slot];
 
-        if (entry == FREE_ENTRY) {
+        if (entry != FREE_ENTRY) {
+            asked &= ~map_bit(slot);
+            inspect_entry(g, entry, marks, found);
+        } else if ((map & map_bit(slot)) != 0u) {
             if (!all_ones(contents + SECOND_SECTOR_WORDS * slot))
                 found->broken |= RULE(3);
             found->free_slots++;
         } else {
+            /* Taken by a write that got no further: dead, and there is
+             * nothing to ask of its contents. */
             asked &= ~map_bit(slot);
-            if (looks_live(entry))
-                inspect_number(g, entry & NUMBER_MASK, marks, found);
         }
     }
-    return asked;
+    if (map != asked)
+        found->broken |= RULE(2);
 }
 
-/* R7 for a block whose slots have been looked at. */
+/* R7 for a block whose slots have been looked at.  All ones in a full block
+ * say that its range was never programmed, even if they happen to hold it. */
 static bool range_fits(const uint32_t *head, const struct findings *found)
 {
+    uint32_t least = head[LEAST_MAPPED];
+    uint32_t greatest = head[GREATEST_MAPPED];
+
     if (found->free_slots > 0u)
-        return head[LEAST_MAPPED] == ONES && head[GREATEST_MAPPED] == ONES;
-    return head[LEAST_MAPPED] <= found->least &&
-           found->greatest <= head[GREATEST_MAPPED];
+        return least == ONES && greatest == ONES;
+    return least != ONES && greatest != ONES &&
+           least <= found->least && found->greatest <= greatest;
 }
 
 /* A broken rule does not end the look: one that goes before it may be broken
  * further on in the block. */
 static struct findings inspect_block(struct second_geometry g,
-                                     const uint32_t *head, uint32_t *marks)
+                                     const uint32_t *head,
+                                     struct marks *marks)
 {
-    /* With no live number these hold R7 true whatever words 1 and 2 are. */
+    /* With no live number every range holds them all. */
     struct findings found = {.least = ONES, .greatest = 0};
 
     if (head[ERASE_COUNT] > SECOND_CEILING)
         found.broken |= RULE(1);
-    for (uint32_t slot = 0; slot < second_slots(g); slot += MAP_BITS) {
-        uint32_t asked = inspect_slots(g, head, slot, marks, &found);
-
-        if (head[FREE_MAP + slot / MAP_BITS] != asked)
-            found.broken |= RULE(2);
-    }
+    for (uint32_t slot = 0; slot < second_slots(g); slot += MAP_BITS)
+        inspect_slots(g, head, slot, marks, &found);
     if (!range_fits(head, &found))
         found.broken |= RULE(7);
     return found;
@@ -257,13 +344,20 @@ struct fault {
 static struct fault first_fault(struct second_geometry g,
                                 const uint32_t *image)
 {
-    uint32_t marks[MARK_WORDS] = {0};
+    struct marks marks = {{0}, {0}};
+    bool complete_marked = false;
     bool any_blank = false;
 
     for (uint32_t block = 0; block < g.blocks; block++) {
-        struct findings found =
-            inspect_block(g, image + block_place(g, block), marks);
+        const uint32_t *head = image + block_place(g, block);
+        struct findings found;
 
+        /* Most images have nothing in passing and are spared this. */
+        if (!complete_marked && any_passing(g, head)) {
+            mark_complete(g, image, marks.complete);
+            complete_marked = true;
+        }
+        found = inspect_block(g, head, &marks);
         /* The rules go by their numbers, so the lowest bit is the first. */
         if (found.broken != 0u)
             return (struct fault){block, trailing_zeros(found.broken)};
@@ -321,7 +415,7 @@ static bool table_holds(struct second_geometry g, const uint32_t *image,
     if (told.block >= g.blocks) /* as it is for the word that means none */
         return false;
     *at = told;
-    return image[entry_place(g, told)] == (STATE_LIVE | number);
+    return is_live_for(image[entry_place(g, told)], number);
 }
 
 /* ---- Looking into a well-formed image ---------------------------------- */
@@ -344,7 +438,7 @@ static bool find_live(struct second_geometry g, const uint32_t *image,
             image + entry_place(g, (struct spot){block, 0});
 
         for (slot = 0; slot < slots; slot++)
-            if (entries[slot] == (STATE_LIVE | number))
+            if (is_live_for(entries[slot], number))
                 goto found;
     }
     return false;
@@ -353,6 +447,8 @@ found:
     return true;
 }
 
+/* The map alone tells: R2 lets a bit be set only where the entry is free, and
+ * where it is clear no slot is free, whatever the entry. */
 static uint32_t free_slots_of(struct second_geometry g, const uint32_t *image,
                               uint32_t block)
 {
@@ -386,7 +482,7 @@ static uint32_t live_slots_of(struct second_geometry g, const uint32_t *image,
     uint32_t live = 0;
 
     for (uint32_t slot = 0; slot < slots; slot++)
-        live += looks_live(entries[slot]) ? 1u : 0u;
+        live += is_live(g, entries[slot]) ? 1u : 0u;
     return live;
 }
 
@@ -420,8 +516,8 @@ static void program_range(struct second_geometry g, uint32_t *image,
     uint32_t greatest = 0;
 
     for (uint32_t slot = 0; slot < slots; slot++) {
-        if (looks_live(entries[slot])) {
-            uint32_t number = entries[slot] & NUMBER_MASK;
+        if (is_live(g, entries[slot])) {
+            uint32_t number = number_of(entries[slot]);
 
             if (number < least)
                 least = number;
@@ -433,7 +529,9 @@ static void program_range(struct second_geometry g, uint32_t *image,
     program(done, head + GREATEST_MAPPED, greatest);
 }
 
-/* Places the number in a free slot.  Old is its live entry, NULL for none. */
+/* Places the number in a free slot.  Old is its live entry, NULL for none.  In
+ * an entry in passing (b) finds nothing to clear, but it is a step and counts
+ * as one all the same. */
 static void place(struct second_geometry g, uint32_t *image, struct spot to,
                   uint32_t number, const uint32_t *data, uint32_t *old,
                   struct tally *done)
@@ -448,7 +546,7 @@ static void place(struct second_geometry g, uint32_t *image, struct spot to,
     for (uint32_t i = 0; i < SECOND_SECTOR_WORDS; i++)
         program(done, content + i, data[i]); /* (c) */
     program(done, entry, STATE_WRITING + number); /* (d) */
-    program(done, entry, STATE_LIVE + number); /* (e) */
+    program(done, entry, STATE_COMPLETE + number); /* (e) */
     if (old != NULL)
         program(done, old, *old & ~(CURRENT_BIT | VALID_BIT)); /* (f) */
     if (free_slots_of(g, image, to.block) == 0u)
@@ -530,8 +628,8 @@ static void reclaim(struct second_geometry g, uint32_t *image, uint32_t victim,
         struct spot from = {victim, slot};
         uint32_t *old = image + entry_place(g, from);
 
-        if (looks_live(*old)) {
-            uint32_t number = *old & NUMBER_MASK;
+        if (is_live(g, *old)) {
+            uint32_t number = number_of(*old);
 
             place(g, image, to, number, image + content_place(g, from), old,
                   done);
@@ -712,8 +810,8 @@ uint32_t second_build_table(uint32_t blocks, uint32_t sectors,
         for (at.slot = 0; at.slot < second_slots(g); at.slot++) {
             uint32_t entry = image[entry_place(g, at)];
 
-            if (looks_live(entry))
-                table[entry & NUMBER_MASK] = table_word(g, at);
+            if (is_live(g, entry))
+                table[number_of(entry)] = table_word(g, at);
         }
     return SECOND_OK;
 }

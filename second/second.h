@@ -10,13 +10,26 @@
  * changes no word of the image, of the buffer or of the table and reports
  * zeros.
  *
+ * A slot is free when its entry is all ones and its bit in the free map is
+ * set; with the bit clear, a write took it and got no further, and it is dead.
+ * Of the entries in use, one that is complete and current (bits 31 and 30 set,
+ * bit 29 clear) is live if its number is below L, and else a fault by rule 4.
+ * One that is complete but on its way out (bit 31 set, bits 30 and 29 clear)
+ * and has a number below L is in passing: live as well, as long as no slot of
+ * the image has a complete and current entry of that number.  Once one has,
+ * the slot in passing is superseded, which is neither live nor dead nor free.
+ * Whatever else is in use is dead.
+ *
  * The calls that look at the image also name its first fault.  Beside the
- * answer 4, bad_rule is the rule that is broken, 1 to 7, and bad_block the
+ * answer 4, bad_rule is the rule that is broken, 1 to 8, and bad_block the
  * block charged with it.  That is the lowest block with a fault and, however
- * its faults lie in it, the lowest of the rules it breaks.  A number live in
- * two slots is charged to the block of the second.  Rule 6 is no single
- * block's: it is named when every block is faultless, and then bad_block is
- * the number of blocks.  Beside every other answer both are 0.
+ * its faults lie in it, the lowest of the rules it breaks.  Rule 2 is broken
+ * by a bit of the free map that is set over an entry in use, or clear where no
+ * slot belongs to it; rule 7 also by all ones in word 1 or word 2 of a block
+ * without a free slot; rule 8 by a superseded slot.  A number live in two
+ * slots is charged to the block of the second.  Rule 6 is no single block's:
+ * it is named when every block is faultless, and then bad_block is the number
+ * of blocks.  Beside every other answer both are 0.
  *
  * The table has a 16-bit word for each logical number.  The slots count
  * through the image, block by block, and the word is how many come before the

@@ -9,7 +9,8 @@
 #include <string.h>
 
 #define ONES UINT32_C(0xFFFFFFFF)
-#define LIVE UINT32_C(0xC0000000)
+#define LIVE UINT32_C(0xC0000000)    /* complete */
+#define PASSING UINT32_C(0x80000000) /* live if its number is not complete */
 #define SECTOR SECOND_SECTOR_WORDS
 #define POISON UINT32_C(0xA5A5A5A5)
 
@@ -51,11 +52,12 @@ struct shape {
     uint32_t b, s, l;
 };
 
-static uint32_t d_of(struct shape g) { return g.s - 1; }
-static uint32_t k_of(struct shape g) { return g.s <= 33 ? 1 : 2; }
+/* Those that the slow accounts ask of every slot are inline. */
+static inline uint32_t d_of(struct shape g) { return g.s - 1; }
+static inline uint32_t k_of(struct shape g) { return g.s <= 33 ? 1 : 2; }
 static size_t len_of(struct shape g) { return (size_t)g.b * g.s * 128; }
 
-static uint32_t *head_of(struct shape g, uint32_t *im, uint32_t b)
+static inline uint32_t *head_of(struct shape g, uint32_t *im, uint32_t b)
 {
     return im + (size_t)b * g.s * 128;
 }
@@ -65,7 +67,8 @@ static uint32_t *map_of(struct shape g, uint32_t *im, uint32_t b, uint32_t s)
     return head_of(g, im, b) + 3 + s / 32;
 }
 
-static uint32_t *entry_of(struct shape g, uint32_t *im, uint32_t b, uint32_t s)
+static inline uint32_t *entry_of(struct shape g, uint32_t *im, uint32_t b,
+                                 uint32_t s)
 {
     return head_of(g, im, b) + 3 + k_of(g) + s;
 }
@@ -75,20 +78,56 @@ static uint32_t *data_of(struct shape g, uint32_t *im, uint32_t b, uint32_t s)
     return head_of(g, im, b) + 128 * (s + 1);
 }
 
-static bool bit(uint32_t word, uint32_t n) { return (word >> n & 1) == 1; }
-
-enum kind { FREE, LIVING, DEAD, FAULT };
-
-static enum kind kind_of(struct shape g, uint32_t e)
+static inline bool bit(uint32_t word, uint32_t n)
 {
-    if (e == ONES)
-        return FREE;
-    if (bit(e, 31) && bit(e, 30) && !bit(e, 29))
-        return e % (UINT32_C(1) << 29) < g.l ? LIVING : FAULT;
-    return DEAD;
+    return (word >> n & 1) == 1;
 }
 
-static uint32_t number_of(uint32_t e) { return e % (UINT32_C(1) << 29); }
+static inline uint32_t number_of(uint32_t e)
+{
+    return e % (UINT32_C(1) << 29);
+}
+
+/* Of an entry in use: dead without a look at anything beside it. */
+static inline bool dead_by_itself(struct shape g, uint32_t e)
+{
+    return !bit(e, 31) || bit(e, 29) || (!bit(e, 30) && number_of(e) >= g.l);
+}
+
+static bool complete_somewhere(struct shape g, uint32_t *im, uint32_t n)
+{
+    for (uint32_t b = 0; b < g.b; b++)
+        for (uint32_t s = 0; s < d_of(g); s++)
+            if (*entry_of(g, im, b, s) == LIVE + n)
+                return true;
+    return false;
+}
+
+enum kind { FREE, LIVING, DEAD, FAULT, SUPERSEDED };
+
+static enum kind kind_of(struct shape g, uint32_t *im, uint32_t b, uint32_t s)
+{
+    uint32_t e = *entry_of(g, im, b, s);
+
+    if (e == ONES)
+        return bit(*map_of(g, im, b, s), s % 32) ? FREE : DEAD;
+    if (dead_by_itself(g, e))
+        return DEAD;
+    if (bit(e, 30))
+        return number_of(e) < g.l ? LIVING : FAULT;
+    return complete_somewhere(g, im, number_of(e)) ? SUPERSEDED : LIVING;
+}
+
+static bool lives(struct shape g, uint32_t *im, uint32_t b, uint32_t s)
+{
+    return kind_of(g, im, b, s) == LIVING;
+}
+
+static bool lives_as(struct shape g, uint32_t *im, uint32_t b, uint32_t s,
+                     uint32_t n)
+{
+    return number_of(*entry_of(g, im, b, s)) == n && lives(g, im, b, s);
+}
 
 static uint32_t count_kind(struct shape g, uint32_t *im, uint32_t b,
                            enum kind want)
@@ -96,7 +135,7 @@ static uint32_t count_kind(struct shape g, uint32_t *im, uint32_t b,
     uint32_t n = 0;
 
     for (uint32_t s = 0; s < d_of(g); s++)
-        n += kind_of(g, *entry_of(g, im, b, s)) == want;
+        n += kind_of(g, im, b, s) == want;
     return n;
 }
 
@@ -110,9 +149,9 @@ static bool breaks_r1(struct shape g, uint32_t *im, uint32_t b)
 static bool breaks_r2(struct shape g, uint32_t *im, uint32_t b)
 {
     for (uint32_t i = 0; i < 32 * k_of(g); i++) {
-        bool ought = i >= d_of(g) || *entry_of(g, im, b, i) == ONES;
+        bool set = bit(*map_of(g, im, b, i), i % 32);
 
-        if (bit(*map_of(g, im, b, i), i % 32) != ought)
+        if (i >= d_of(g) ? !set : set && *entry_of(g, im, b, i) != ONES)
             return true;
     }
     return false;
@@ -123,7 +162,7 @@ static bool breaks_r3(struct shape g, uint32_t *im, uint32_t b)
     for (uint32_t s = 0; s < d_of(g); s++) {
         uint32_t *data = data_of(g, im, b, s);
 
-        if (*entry_of(g, im, b, s) != ONES)
+        if (kind_of(g, im, b, s) != FREE)
             continue;
         for (uint32_t i = 0; i < 128; i++)
             if (data[i] != ONES)
@@ -143,16 +182,13 @@ static bool breaks_r5(struct shape g, uint32_t *im, uint32_t b)
     uint32_t d = d_of(g);
 
     for (uint32_t later = b * d; later < (b + 1) * d; later++) {
-        uint32_t e = *entry_of(g, im, b, later % d);
+        uint32_t n = number_of(*entry_of(g, im, b, later % d));
 
-        if (kind_of(g, e) != LIVING)
+        if (!lives(g, im, b, later % d))
             continue;
-        for (uint32_t i = 0; i < later; i++) {
-            uint32_t f = *entry_of(g, im, i / d, i % d);
-
-            if (kind_of(g, f) == LIVING && number_of(f) == number_of(e))
+        for (uint32_t i = 0; i < later; i++)
+            if (lives_as(g, im, i / d, i % d, n))
                 return true;
-        }
     }
     return false;
 }
@@ -163,14 +199,20 @@ static bool breaks_r7(struct shape g, uint32_t *im, uint32_t b)
 
     if (count_kind(g, im, b, FREE) > 0)
         return h[1] != ONES || h[2] != ONES;
+    if (h[1] == ONES || h[2] == ONES)
+        return true;
     for (uint32_t s = 0; s < d_of(g); s++) {
-        uint32_t e = *entry_of(g, im, b, s);
+        uint32_t n = number_of(*entry_of(g, im, b, s));
 
-        if (kind_of(g, e) == LIVING &&
-            (h[1] > number_of(e) || number_of(e) > h[2]))
+        if (lives(g, im, b, s) && (h[1] > n || n > h[2]))
             return true;
     }
     return false;
+}
+
+static bool breaks_r8(struct shape g, uint32_t *im, uint32_t b)
+{
+    return count_kind(g, im, b, SUPERSEDED) > 0;
 }
 
 /* The one rule that is asked of the image as a whole. */
@@ -188,7 +230,7 @@ static const struct {
     bool (*breaks)(struct shape g, uint32_t *im, uint32_t b);
 } block_rules[] = {
     {1, breaks_r1}, {2, breaks_r2}, {3, breaks_r3},
-    {4, breaks_r4}, {5, breaks_r5}, {7, breaks_r7},
+    {4, breaks_r4}, {5, breaks_r5}, {7, breaks_r7}, {8, breaks_r8},
 };
 
 #define BLOCK_RULES (sizeof block_rules / sizeof block_rules[0])
@@ -227,9 +269,12 @@ static struct pair first_fault(struct shape g, uint32_t *im)
 static uint32_t *model_find(struct shape g, uint32_t *im, uint32_t n)
 {
     for (uint32_t b = 0; b < g.b; b++)
-        for (uint32_t s = 0; s < d_of(g); s++)
-            if (*entry_of(g, im, b, s) == LIVE + n)
-                return entry_of(g, im, b, s);
+        for (uint32_t s = 0; s < d_of(g); s++) {
+            uint32_t *e = entry_of(g, im, b, s);
+
+            if ((*e == LIVE + n || *e == PASSING + n) && lives(g, im, b, s))
+                return e;
+        }
     return NULL;
 }
 
@@ -251,12 +296,12 @@ static uint32_t model_put(struct shape g, uint32_t *im, uint32_t b, uint32_t s,
     if (count_kind(g, im, b, FREE) == 0) {
         h[1] = h[2] = n;
         for (uint32_t i = 0; i < d_of(g); i++) {
-            uint32_t e = *entry_of(g, im, b, i);
+            uint32_t m = number_of(*entry_of(g, im, b, i));
 
-            if (kind_of(g, e) == LIVING && number_of(e) < h[1])
-                h[1] = number_of(e);
-            if (kind_of(g, e) == LIVING && number_of(e) > h[2])
-                h[2] = number_of(e);
+            if (lives(g, im, b, i) && m < h[1])
+                h[1] = m;
+            if (lives(g, im, b, i) && m > h[2])
+                h[2] = m;
         }
         cost += 2;
     }
@@ -275,7 +320,7 @@ static bool model_target(struct shape g, uint32_t *im, uint32_t *tb,
         if (n == 0 || n == d_of(g))
             continue;
         *tb = b;
-        for (*ts = 0; *entry_of(g, im, b, *ts) != ONES;)
+        for (*ts = 0; kind_of(g, im, b, *ts) != FREE;)
             ++*ts;
         return true;
     }
@@ -320,10 +365,10 @@ static uint32_t model_write(struct shape g, uint32_t *im, uint32_t n,
         if (count == 1000000)
             return 6;
         for (uint32_t s = 0; s < d_of(g); s++) {
-            uint32_t e = *entry_of(g, im, v, s);
+            uint32_t m = number_of(*entry_of(g, im, v, s));
 
-            if (kind_of(g, e) == LIVING)
-                *words += model_put(g, im, blank, to++, number_of(e),
+            if (lives(g, im, v, s))
+                *words += model_put(g, im, blank, to++, m,
                                     data_of(g, im, v, s));
         }
         memset(head_of(g, im, v), 0xFF, (size_t)g.s * 512);
@@ -344,7 +389,7 @@ static uint32_t model_release(struct shape g, uint32_t *im, uint32_t n,
     *words = *erasures = 0;
     if (!e)
         return 5;
-    *e = UINT32_C(0x40000000) + n;
+    *e -= UINT32_C(0x80000000); /* bit 31, which every live entry has */
     *words = 1;
     return 0;
 }
@@ -483,7 +528,8 @@ static bool all_are(const uint32_t *w, size_t n, uint32_t value)
     return true;
 }
 
-/* Takes a free slot by hand, leaving all rules but R6 and R7 as they were. */
+/* Takes a free slot by hand, by its bit alone if the entry is all ones.  R1 to
+ * R3 stay as they were. */
 static void seat(struct shape g, uint32_t *im, uint32_t b, uint32_t s,
                  uint32_t entry)
 {
@@ -569,10 +615,12 @@ static void test_p5(void)
     static const struct { uint32_t entry, answer, mapped, dead; } cases[] = {
         {0xC0000059, 0, 1, 0}, {0xC000005A, 4, 0, 0}, {0xE0000005, 0, 0, 1},
         {0x40000005, 0, 0, 1}, {0xC0000000, 0, 1, 0}, {0xDFFFFFFF, 4, 0, 0},
-        {0x80000005, 0, 0, 1}, {0x00000005, 0, 0, 1}, {0xFFFFFFFE, 0, 0, 1},
+        {0x80000005, 0, 1, 0}, {0x00000005, 0, 0, 1}, {0xFFFFFFFE, 0, 0, 1},
         {0xBFFFFFFF, 0, 0, 1}, {0x7FFFFFFF, 0, 0, 1}, {0x00000000, 0, 0, 1},
         {0xA0000005, 0, 0, 1}, {0x60000005, 0, 0, 1}, {0x20000005, 0, 0, 1},
         {0xE000005A, 0, 0, 1}, {0x4000005A, 0, 0, 1}, {0x8000005A, 0, 0, 1},
+        {0x80000059, 0, 1, 0}, {0x80000000, 0, 1, 0}, {0x9FFFFFFF, 0, 0, 1},
+        {0x8001005A, 0, 0, 1}, {0xFFFFFFFF, 0, 0, 1},
     };
     struct shape g = {8, 16, 90};
     uint32_t *im = fresh(g);
@@ -1079,22 +1127,30 @@ static void test_r1(struct shape g)
 
 static void test_r2(struct shape g)
 {
+    static const uint32_t in_use[] = {3, LIVE, PASSING, 0xE0000000, 0x7FFFFFFF,
+                                      0xFFFFFFFE, 0};
     uint32_t *im = fresh(g);
+    uint32_t *h = head_of(g, im, 1);
 
     for (uint32_t i = 0; i < 32 * k_of(g); i++) {
         *map_of(g, im, 1, i) ^= UINT32_C(1) << i % 32;
-        VERDICT(1, 2);
         if (i < d_of(g)) {
-            *entry_of(g, im, 1, i) = 3;
-            if (d_of(g) > 1)
+            if (d_of(g) == 1)
+                h[1] = h[2] = 0; /* full, with the slot taken */
+            VERDICT(0, 0);
+            for (size_t j = 0; j < sizeof in_use / sizeof in_use[0]; j++) {
+                *entry_of(g, im, 1, i) = in_use[j];
                 VERDICT(0, 0);
-            *map_of(g, im, 1, i) ^= UINT32_C(1) << i % 32;
-            if (d_of(g) > 1)
+                *map_of(g, im, 1, i) ^= UINT32_C(1) << i % 32;
                 VERDICT(1, 2);
+                *map_of(g, im, 1, i) ^= UINT32_C(1) << i % 32;
+            }
             *entry_of(g, im, 1, i) = ONES;
+            h[1] = h[2] = ONES;
         } else {
-            *map_of(g, im, 1, i) ^= UINT32_C(1) << i % 32;
+            VERDICT(1, 2);
         }
+        *map_of(g, im, 1, i) ^= UINT32_C(1) << i % 32;
         VERDICT(0, 0);
     }
     free(im);
@@ -1114,9 +1170,14 @@ static void test_r3(struct shape g)
         }
         VERDICT(0, 0);
     }
-    /* The same in a slot that is taken: nothing is asked of its contents. */
-    seat(g, im, 1, 0, 0);
+    /* The same in a slot that is taken, with an entry in use or still without
+     * one: nothing is asked of its contents. */
     data_of(g, im, 1, 0)[127] = 0;
+    seat(g, im, 1, 0, 0);
+    if (d_of(g) == 1)
+        head_of(g, im, 1)[1] = head_of(g, im, 1)[2] = 0;
+    VERDICT(0, 0);
+    seat(g, im, 1, 0, ONES);
     VERDICT(0, 0);
     free(im);
 }
@@ -1153,13 +1214,21 @@ static void test_r5(struct shape g)
             uint32_t *e = entry_of(g, im, b, last);
 
             seat(g, im, 0, 0, LIVE + n);
-            seat(g, im, b, last, 0x80000000 + n);
-            VERDICT(0, 0);
-            *e = LIVE + n;
+            seat(g, im, b, last, PASSING + n);
+            VERDICT(b, 8);
+            *entry_of(g, im, 0, 0) = PASSING + n;
             VERDICT(b, 5);
+            *e = LIVE + n;
+            VERDICT(0, 8);
+            *entry_of(g, im, 0, 0) = LIVE + n;
+            VERDICT(b, 5);
+            *e = n;
+            VERDICT(0, 0);
             *e = 0xE0000000 + n;
             VERDICT(0, 0);
             *e = LIVE + (n == 0 ? 1 : n - 1);
+            VERDICT(0, 0);
+            *e = PASSING + (n == 0 ? 1 : n - 1);
             VERDICT(0, 0);
             *e = LIVE + n;
             *entry_of(g, im, 0, 0) = 0x40000000 + n;
@@ -1173,20 +1242,29 @@ static void test_r5(struct shape g)
     free(im);
 }
 
-static void test_r6(struct shape g)
+/* The last slot of a block, by an entry or by no more than its bit. */
+static void take_last(struct shape g, uint32_t *im, uint32_t b, uint32_t entry)
+{
+    seat(g, im, b, d_of(g) - 1, entry);
+    if (d_of(g) == 1) /* that makes it full */
+        head_of(g, im, b)[1] = head_of(g, im, b)[2] = 0;
+}
+
+static void test_r6(struct shape g, uint32_t entry)
 {
     uint32_t *im = fresh(g);
 
     for (uint32_t b = 0; b < g.b; b++) {
         VERDICT(0, 0);
-        seat(g, im, b, d_of(g) - 1, 0x00000001);
+        take_last(g, im, b, entry);
     }
     VERDICT(g.b, 6);
     for (uint32_t b = 0; b < g.b; b++) {
         *entry_of(g, im, b, d_of(g) - 1) = ONES;
         *map_of(g, im, b, d_of(g) - 1) = ONES;
+        head_of(g, im, b)[1] = head_of(g, im, b)[2] = ONES;
         VERDICT(0, 0);
-        seat(g, im, b, d_of(g) - 1, 0x00000001);
+        take_last(g, im, b, entry);
     }
     free(im);
 }
@@ -1238,18 +1316,52 @@ static void test_r7_full(struct shape g)
     VERDICT(0, 7);
     h[2] = 6;
     VERDICT(0, 0);
-    h[2] = ONES;
+    h[2] = ONES - 1;
     VERDICT(0, 0);
+    h[2] = ONES; /* no less than any number, but not programmed */
+    VERDICT(0, 7);
     *entry_of(g, im, 0, d - 1) = LIVE + 6; /* the last slot counts too */
     h[2] = 5;
     VERDICT(0, 7);
+    *entry_of(g, im, 0, d - 1) = PASSING + 6;
+    VERDICT(0, 7);
     h[2] = 6;
     VERDICT(0, 0);
-    *entry_of(g, im, 0, 0) = *entry_of(g, im, 0, 1) = 3;
-    *entry_of(g, im, 0, d - 1) = 6;
-    h[1] = ONES; /* no live number: any two words will do */
-    h[2] = 0;
+    *entry_of(g, im, 0, d - 1) = PASSING + g.l; /* dead */
+    h[2] = 5;
     VERDICT(0, 0);
+    *entry_of(g, im, 0, d - 1) = ONES; /* not so its bit in the map */
+    VERDICT(0, 0);
+    free(im);
+}
+
+/* With no live number any two words will do that are not all ones. */
+static void test_r7_all_dead(struct shape g)
+{
+    static const uint32_t fine[] = {0, 1, 6, 0x80000000, 0x7FFFFFFF,
+                                    0xFFFFFFFE};
+    uint32_t *im = fresh(g);
+    uint32_t *h = head_of(g, im, 1);
+
+    for (uint32_t s = 0; s < d_of(g); s++)
+        seat(g, im, 1, s, s % 3 == 0 ? ONES : s % 3 == 1 ? 3 : PASSING + g.l);
+    for (uint32_t round = 0; round < 2; round++) {
+        VERDICT(1, 7);
+        for (size_t i = 0; i < 6; i++) {
+            h[1] = fine[i];
+            h[2] = ONES;
+            VERDICT(1, 7);
+            for (size_t j = 0; j < 6; j++) {
+                h[2] = fine[j];
+                VERDICT(0, 0);
+            }
+            h[1] = ONES;
+            VERDICT(1, 7);
+        }
+        h[2] = ONES;
+        for (uint32_t s = 0; s < d_of(g); s++)
+            *entry_of(g, im, 1, s) = ONES; /* taken, and no more than that */
+    }
     free(im);
 }
 
@@ -1265,27 +1377,33 @@ static void test_rules(void)
         test_r3(shapes[i]);
         test_r4(shapes[i]);
         test_r5(shapes[i]);
-        test_r6(shapes[i]);
+        test_r6(shapes[i], 0x00000001);
+        test_r6(shapes[i], ONES);
         test_r7_with_free(shapes[i]);
         test_r7_full(shapes[i]);
+        test_r7_all_dead(shapes[i]);
     }
     test_r1((struct shape){3, 2, 1});
     test_r2((struct shape){3, 2, 1});
     test_r3((struct shape){3, 2, 1});
     test_r4((struct shape){3, 2, 1});
-    test_r6((struct shape){3, 2, 1});
-    test_r6((struct shape){2, 3, 1});
+    test_r6((struct shape){3, 2, 1}, 0x00000001);
+    test_r6((struct shape){3, 2, 1}, ONES);
+    test_r6((struct shape){2, 3, 1}, ONES);
+    test_r7_all_dead((struct shape){3, 2, 1});
+    test_r7_all_dead((struct shape){2, 3, 1});
 }
 
 /* ---- The first of several faults ---------------------------------------- */
 
-/* Block 1 is blank.  In every other one the first four slots and the last four
- * are live, dead, dead and free, and those between are dead: room to break
- * each rule of a block, low or high in it, without a touch on the others. */
+/* Block 1 is blank.  In every other one the first five slots and the last five
+ * are live, dead, dead, free and dead, and those between are dead: room to
+ * break each rule of a block, low or high in it, without a touch on the
+ * others. */
 static uint32_t *roomy(struct shape g)
 {
     uint32_t *im = fresh(g);
-    uint32_t high = d_of(g) - 4;
+    uint32_t high = d_of(g) - 5;
 
     for (uint32_t b = 0; b < g.b; b++)
         for (uint32_t s = 0; s < d_of(g) && b != 1; s++) {
@@ -1301,24 +1419,26 @@ static uint32_t *roomy(struct shape g)
 static void break_rule(struct shape g, uint32_t *im, struct pair what,
                        bool high)
 {
-    uint32_t b = what.block, s = high ? d_of(g) - 4 : 0;
-    uint32_t taken = UINT32_C(1) << (s + 1) % 32;
-    uint32_t not_taken = UINT32_C(1) << (s + 3) % 32;
+    uint32_t b = what.block, s = high ? d_of(g) - 5 : 0;
 
     switch (what.rule) {
     case 1: head_of(g, im, b)[0] = high ? ONES : 1000001; break;
     case 2:
-        if (high)
-            *map_of(g, im, b, s + 3) &= ~not_taken;
+        if (high) /* the last bit of the map, of no slot */
+            *map_of(g, im, b, d_of(g)) &= 0x7FFFFFFF;
         else
-            *map_of(g, im, b, s + 1) |= taken;
+            *map_of(g, im, b, s + 1) |= UINT32_C(1) << (s + 1) % 32;
         break;
     case 3: data_of(g, im, b, s + 3)[high ? 127 : 0] = 0; break;
     case 4: *entry_of(g, im, b, s + 1) = high ? 0xDFFFFFFF : LIVE + g.l; break;
     /* Again the first number of the image, or of the block itself. */
     case 5: *entry_of(g, im, b, s + 2) = LIVE + (high ? 0 : 2 * b); break;
-    case 6: seat(g, im, 1, s, 0); break;
-    default: head_of(g, im, b)[high ? 2 : 1] = 0; break;
+    case 6: seat(g, im, 1, s, high ? ONES : 0); break;
+    case 7: head_of(g, im, b)[high ? 2 : 1] = 0; break;
+    /* By the first number of the image, or by one of the last block. */
+    default:
+        *entry_of(g, im, b, s + 4) = PASSING + (high ? 0 : 2 * (g.b - 1));
+        break;
     }
 }
 
@@ -1375,7 +1495,7 @@ static void test_one_to_three_breaks(struct shape g)
         for (size_t j = i + 1; j < BREAKS; j++) {
             for (uint32_t high = 0; high < 4; high++)
                 EXPECT_FIRST(i, j, j, high);
-            for (size_t k = j + 1; k < BREAKS; k++)
+            for (size_t k = j + 1; k < BREAKS; k += 1 + below(2))
                 EXPECT_FIRST(i, j, k, below(8));
         }
     }
@@ -1431,7 +1551,7 @@ static void test_r5_among_others(void)
     seat(g, im, 3, 0, LIVE + 4);
     seat(g, im, 4, 2, LIVE + 4); /* three slots: the second is the first bad */
     VERDICT(3, 5);
-    *entry_of(g, im, 3, 0) = 0x80000004;
+    *entry_of(g, im, 3, 0) = 0x40000004;
     VERDICT(4, 5);
     *entry_of(g, im, 1, 1) = LIVE + 9;
     VERDICT(1, 4);
@@ -1454,8 +1574,9 @@ static void test_r5_among_others(void)
     free(im);
 }
 
-/* A slot is free or live by its entry alone, whatever the map says of it. */
-static void test_map_hides_nothing(void)
+/* A slot is live by its entry alone, whatever the map says of it, but free by
+ * both. */
+static void test_map_hides_no_entry(void)
 {
     struct shape g = {4, 5, 9};
     uint32_t *im = fresh(g);
@@ -1468,10 +1589,22 @@ static void test_map_hides_nothing(void)
     VERDICT(2, 5);
     *entry_of(g, im, 2, 2) = ONES;
     data_of(g, im, 2, 2)[9] = 0;
-    CHECK(broken(g, im) == (1u << 2 | 1u << 3));
-    NAMED(2, 2);
+    VERDICT(0, 0);
     *map_of(g, im, 2, 2) = ONES;
     VERDICT(2, 3);
+
+    /* What the map calls free supersedes and is superseded like the rest. */
+    *entry_of(g, im, 2, 2) = PASSING + 3;
+    CHECK(broken(g, im) == (1u << 2 | 1u << 8));
+    NAMED(2, 2);
+    *map_of(g, im, 2, 2) = ~UINT32_C(4);
+    VERDICT(2, 8);
+    *entry_of(g, im, 0, 1) = PASSING + 3;
+    VERDICT(2, 5);
+    *entry_of(g, im, 2, 2) = LIVE + 3;
+    *map_of(g, im, 2, 2) = ONES;
+    CHECK(broken(g, im) == (1u << 2 | 1u << 8));
+    NAMED(0, 8);
     free(im);
 }
 
@@ -1519,13 +1652,13 @@ static void test_r6_behind_all(struct shape g)
 
 static void test_first_faults(void)
 {
-    test_one_to_three_breaks((struct shape){5, 9, 20});
-    test_breaks_behind_refusals((struct shape){5, 9, 20});
+    test_one_to_three_breaks((struct shape){5, 11, 20});
+    test_breaks_behind_refusals((struct shape){5, 11, 20});
     test_breaks_behind_refusals((struct shape){4, 41, 100});
     test_breaks_behind_refusals((struct shape){64, 64, 3968});
     test_r5_charges_the_later();
     test_r5_among_others();
-    test_map_hides_nothing();
+    test_map_hides_no_entry();
     test_r7_of_full_among_others();
     test_r6_behind_all((struct shape){2, 3, 1});
     test_r6_behind_all((struct shape){64, 3, 100});
@@ -1635,8 +1768,8 @@ static void test_many_shapes(void)
     test_many((struct shape){4, 33, 95}, 2000, 1);
     test_many((struct shape){4, 34, 98}, 2000, 1);
     test_many((struct shape){5, 64, 200}, 2000, 1);
-    test_many((struct shape){64, 64, 3968}, 6500, 100);
-    test_many((struct shape){64, 64, 2000}, 6000, 100);
+    test_many((struct shape){64, 64, 3968}, 5000, 100);
+    test_many((struct shape){64, 64, 2000}, 4900, 100);
 }
 
 /* ---- Images that no call made ------------------------------------------- */
@@ -1646,9 +1779,15 @@ static uint32_t dead_entry(struct shape g)
     for (;;) {
         uint32_t e = below(2) ? rnd() : (below(8) << 29) + below(g.l + 2);
 
-        if (kind_of(g, e) == DEAD)
+        if (e != ONES && dead_by_itself(g, e))
             return e;
     }
+}
+
+/* For a dead slot: now and then an entry that is not in use at all. */
+static uint32_t dead_slot(struct shape g)
+{
+    return below(4) == 0 ? ONES : dead_entry(g);
 }
 
 /* A random sound image: holes anywhere, several open blocks, any count. */
@@ -1675,15 +1814,15 @@ static void draw_image(struct shape g, uint32_t *im)
             if (style == 1 && below(2))
                 continue;
             if (next < g.l && below(4) <= liveness)
-                seat(g, im, b, s, LIVE + next++);
+                seat(g, im, b, s, (below(4) ? LIVE : PASSING) + next++);
             else
-                seat(g, im, b, s, dead_entry(g));
+                seat(g, im, b, s, dead_slot(g));
             for (uint32_t i = 0; i < 128; i++)
                 data_of(g, im, b, s)[i] = rnd();
         }
         if (count_kind(g, im, b, FREE) == 0) {
             h[1] = 0;
-            h[2] = below(2) ? g.l - 1 : ONES;
+            h[2] = below(2) ? g.l - 1 : ONES - 1;
         }
     }
 }
@@ -1714,14 +1853,16 @@ static void spoil(struct shape g, uint32_t *im)
     uint32_t *h = head_of(g, im, b);
     uint32_t any = UINT32_C(1) << below(32);
 
-    switch (below(8)) {
+    switch (below(10)) {
     case 0: h[below(3)] = below(2) ? rnd() : below(g.l + 1); break;
     case 1: h[0] = 999999 + below(3); break;
     case 2: *map_of(g, im, b, s) ^= any; break;
     case 3: *entry_of(g, im, b, s) = LIVE + below(g.l + 1); break;
     case 4: *entry_of(g, im, b, s) ^= any; break;
     case 5: data_of(g, im, b, s)[below(128)] ^= any; break;
-    case 6: seat(g, im, b, s, dead_entry(g)); break;
+    case 6: seat(g, im, b, s, dead_slot(g)); break;
+    case 7: *entry_of(g, im, b, s) = PASSING + below(g.l + 1); break;
+    case 8: seat(g, im, b, s, PASSING + below(g.l + 1)); break;
     default: h[3 + k_of(g) + d_of(g) + below(20)] = rnd(); break;
     }
 }
@@ -1772,7 +1913,7 @@ static void scribble(struct shape g, uint32_t *im)
     switch (below(4)) {
     case 0: *w = rnd(); break;
     case 1: *w ^= UINT32_C(1) << below(32); break;
-    case 2: *w = LIVE + below(g.l + 1); break;
+    case 2: *w = (below(2) ? LIVE : PASSING) + below(g.l + 1); break;
     default: *w = below(2) ? ONES : 0; break;
     }
 }
@@ -1794,7 +1935,7 @@ static void test_damaged_images(void)
         {2, 3, 1}, {3, 2, 1}, {3, 5, 7}, {4, 4, 8}, {4, 5, 6}, {3, 34, 60},
         {6, 3, 9}, {9, 3, 12},
     };
-    uint32_t alone[8] = {0}, before_others[8] = {0};
+    uint32_t alone[9] = {0}, before_others[9] = {0};
 
     for (uint32_t round = 0; round < 1600; round++) {
         struct shape g = shapes[round % 8];
@@ -1818,7 +1959,7 @@ static void test_damaged_images(void)
         }
         free(drawn);
     }
-    for (uint32_t rule = 1; rule <= 7; rule++)
+    for (uint32_t rule = 1; rule <= 8; rule++)
         CHECK(alone[rule] > 100 && (rule == 6 || before_others[rule] > 10));
 }
 
@@ -1866,10 +2007,8 @@ static uint16_t *right_table(struct shape g, uint32_t *im)
     for (uint32_t n = 0; n < g.l; n++)
         table[n] = NONE;
     for (uint32_t p = 0; p < g.b * d; p++) {
-        uint32_t e = *entry_of(g, im, p / d, p % d);
-
-        if (kind_of(g, e) == LIVING)
-            table[number_of(e)] = (uint16_t)p;
+        if (lives(g, im, p / d, p % d))
+            table[number_of(*entry_of(g, im, p / d, p % d))] = (uint16_t)p;
     }
     return table;
 }
@@ -2339,7 +2478,7 @@ static void test_table_refusals(void)
     test_table_length_in_order((struct shape){5, 34, 128});
     test_table_refusal_1();
     test_table_refusals_in_order();
-    test_table_around_4((struct shape){5, 9, 20});
+    test_table_around_4((struct shape){5, 11, 20});
     test_table_around_4((struct shape){4, 41, 100});
     test_table_refusal_6();
 }
@@ -2386,9 +2525,9 @@ static uint16_t some_slot(struct shape g, uint32_t *im, enum kind want,
 
     for (uint32_t i = 0; i < g.b * d; i++) {
         uint32_t p = (first + i) % (g.b * d);
-        uint32_t e = *entry_of(g, im, p / d, p % d);
 
-        if (kind_of(g, e) == want && e != LIVE + n)
+        if (kind_of(g, im, p / d, p % d) == want &&
+            !lives_as(g, im, p / d, p % d, n))
             return (uint16_t)p;
     }
     return NONE;
@@ -2564,8 +2703,9 @@ static void test_each_word_there_is(void)
     free(table);
 }
 
-/* Number 5 in entries of all states in block 0, live only in block 2. */
-static void test_dead_of_the_same_number(void)
+/* Number 5 in block 0 in entries of all states in which it is dead there, with
+ * others in the two in which it is not; live only in block 2. */
+static void test_dead_of_the_same_number(uint32_t state_there)
 {
     struct shape g = {3, 11, 10};
     uint32_t *im = fresh(g), *own;
@@ -2573,8 +2713,9 @@ static void test_dead_of_the_same_number(void)
     uint32_t got[SECTOR];
 
     for (uint32_t state = 0; state < 8; state++)
-        seat(g, im, 0, state, (state << 29) + (state == 6 ? 4 : 5));
-    seat(g, im, 2, 3, LIVE + 5);
+        seat(g, im, 0, state, (state << 29) + (state == 6 ? 4
+                                              : state == 4 ? 3 : 5));
+    seat(g, im, 2, 3, state_there + 5);
     for (uint32_t i = 0; i < 128; i++)
         data_of(g, im, 2, 3)[i] = 77;
     for (uint16_t p = 0; p < 10; p++) {
@@ -2589,8 +2730,9 @@ static void test_dead_of_the_same_number(void)
         own = copy_of(g, im);
         table[5] = p;
         CHECK(do_release_with(g, own, 5, table) == 0 && counts_are(1, 0));
-        CHECK(*entry_of(g, own, 2, 3) == 0x40000005 && table[5] == NONE);
-        *entry_of(g, own, 2, 3) = LIVE + 5;
+        CHECK(*entry_of(g, own, 2, 3) == (state_there & 0x40000000) + 5);
+        CHECK(table[5] == NONE);
+        *entry_of(g, own, 2, 3) = state_there + 5;
         CHECK(same(g, own, im));
         free(own);
     }
@@ -2634,7 +2776,7 @@ static uint32_t *model_data(struct shape g, uint32_t *im, uint32_t n)
 {
     for (uint32_t b = 0; b < g.b; b++)
         for (uint32_t s = 0; s < d_of(g); s++)
-            if (*entry_of(g, im, b, s) == LIVE + n)
+            if (lives_as(g, im, b, s, n))
                 return data_of(g, im, b, s);
     return NULL;
 }
@@ -2694,8 +2836,9 @@ static void run_with_table(struct shape g, uint32_t *im, uint32_t calls,
 }
 
 /* All numbers are live and the blocks full but for the last.  The dead slots
- * are spread evenly, the numbers anyhow. */
-static uint32_t *packed(struct shape g)
+ * are spread evenly, the numbers anyhow.  Of so many live entries one is in
+ * passing, and every other dead slot has a free entry. */
+static uint32_t *packed(struct shape g, uint32_t so_many)
 {
     uint32_t *im = fresh(g);
     uint32_t d = d_of(g), end = (g.b - 1) * d, dead = end - g.l;
@@ -2704,9 +2847,10 @@ static uint32_t *packed(struct shape g)
         uint32_t *h = head_of(g, im, p / d);
 
         if (p * dead / end != (p + 1) * dead / end)
-            seat(g, im, p / d, p % d, 0);
+            seat(g, im, p / d, p % d, (p - next) % 2 == 0 ? 0 : ONES);
         else
-            seat(g, im, p / d, p % d, LIVE + next++ * 7919 % g.l);
+            seat(g, im, p / d, p % d, (p % so_many == 0 ? PASSING : LIVE) +
+                                      next++ * 7919 % g.l);
         sector_for(p, 3, data_of(g, im, p / d, p % d));
         h[1] = 0;
         h[2] = g.l - 1;
@@ -2724,9 +2868,9 @@ static void test_runs_with_table(void)
 
     for (size_t i = 0; i < sizeof shapes / sizeof shapes[0]; i++) {
         run_with_table(shapes[i], fresh(shapes[i]), 800, 5);
-        run_with_table(shapes[i], packed(shapes[i]), 300, 5);
+        run_with_table(shapes[i], packed(shapes[i], 3), 300, 5);
     }
-    run_with_table(largest, packed(largest), 60, 20);
+    run_with_table(largest, packed(largest, 100), 60, 20);
 }
 
 static void test_tables(void)
@@ -2745,9 +2889,676 @@ static void test_tables(void)
     test_tables_of_damaged_images();
     test_each_word_of_each_number();
     test_each_word_there_is();
-    test_dead_of_the_same_number();
+    test_dead_of_the_same_number(LIVE);
+    test_dead_of_the_same_number(PASSING);
     test_slots_behind_the_image();
     test_runs_with_table();
+}
+
+/* ---- Entries in passing, and slots taken for nothing -------------------- */
+
+static void pour(struct shape g, uint32_t *im, uint32_t b, uint32_t s,
+                 uint32_t fill)
+{
+    for (uint32_t i = 0; i < 128; i++)
+        data_of(g, im, b, s)[i] = fill;
+}
+
+/* With a table built for it and without one. */
+static bool reads_fill(struct shape g, uint32_t *im, uint32_t n, uint32_t fill)
+{
+    uint16_t *table = random_table(g.l);
+    uint32_t got[SECTOR] = {0}, other[SECTOR] = {0};
+    bool good = do_read(g, im, n, got) == 0 && all_are(got, 128, fill);
+
+    good &= do_build(g, im, table) == 0 && is_right(g, im, table);
+    good &= do_read_with(g, im, n, other, table) == 0;
+    free(table);
+    return good && all_are(other, 128, fill);
+}
+
+/* All calls, and the four with a table. */
+static void refused_by_all(struct shape g, uint32_t *im, uint32_t n, int line)
+{
+    struct lent a = {g, im, len_of(g), n, 128};
+
+    expect(a, g, 0, 4, 4, 4, 4, line);
+    expect_with(a, g.l, g, (const uint32_t[]){4, 4, 4, 4}, line);
+}
+
+#define REFUSED_BY_ALL(n) refused_by_all(g, im, n, __LINE__)
+
+/* The second write of 5 of P7, stored by hand word by word. */
+static void test_words_of_a_write(void)
+{
+    struct shape g = {3, 5, 7};
+    uint32_t *im = fresh(g);
+
+    CHECK(do_fill(g, im, 5, 0x12345678) == 0);
+    im[3] = 0xFFFFFFFC; /* (a) */
+    CHECK(reads_fill(g, im, 5, 0x12345678));
+    CHECK(report_is(g, im, 1, 10, 1, 0));
+    im[4] = 0x80000005; /* (b) */
+    for (uint32_t i = 0; i <= 128; i++) {
+        VERDICT(0, 0);
+        CHECK(reads_fill(g, im, 5, 0x12345678));
+        CHECK(report_is(g, im, 1, 10, 1, 0));
+        if (i < 128)
+            im[256 + i] = 0; /* (c) */
+    }
+    im[5] = 0xE0000005; /* (d) */
+    VERDICT(0, 0);
+    CHECK(reads_fill(g, im, 5, 0x12345678));
+    CHECK(report_is(g, im, 1, 10, 1, 0));
+    im[5] = 0xC0000005; /* (e) */
+    VERDICT(0, 8);
+    REFUSED_BY_ALL(5);
+    REFUSED_BY_ALL(0);
+    im[4] = 5; /* (f) */
+    VERDICT(0, 0);
+    CHECK(reads_fill(g, im, 5, 0));
+    CHECK(report_is(g, im, 1, 10, 1, 0));
+    free(im);
+}
+
+/* Block 0 of (3,5,7): 5 in passing, a slot taken and half written, two free
+ * ones. */
+static uint32_t *half_way(struct shape g)
+{
+    uint32_t *im = fresh(g);
+
+    seat(g, im, 0, 0, 0x80000005);
+    pour(g, im, 0, 0, 0x12345678);
+    seat(g, im, 0, 1, ONES);
+    for (uint32_t i = 0; i < 64; i++)
+        im[256 + i] = i;
+    CHECK(broken(g, im) == 0 && report_is(g, im, 1, 10, 1, 0));
+    return im;
+}
+
+static void test_write_over_passing(void)
+{
+    struct shape g = {3, 5, 7};
+    uint32_t *im = half_way(g), *want = half_way(g);
+    uint16_t *table = random_table(g.l);
+
+    CHECK(do_build(g, im, table) == 0);
+    CHECK(TABLE_IS(NONE, NONE, NONE, NONE, NONE, 0, NONE));
+    CHECK(do_fill_with(g, im, 5, 9, table) == 0 && counts_are(133, 0));
+    want[3] = 0xFFFFFFF8;
+    want[4] = 0x00000005;
+    want[6] = 0xC0000005;
+    pour(g, want, 0, 2, 9);
+    CHECK(same(g, im, want) && reads_fill(g, im, 5, 9));
+    CHECK(TABLE_IS(NONE, NONE, NONE, NONE, NONE, 2, NONE));
+    CHECK(report_is(g, im, 1, 9, 2, 0));
+
+    /* The last slot of the block. */
+    im[6] = want[6] = 0x80000005;
+    CHECK(do_fill(g, im, 5, 8) == 0 && counts_are(135, 0));
+    want[1] = want[2] = 5;
+    want[3] = 0xFFFFFFF0;
+    want[6] = 0x00000005;
+    want[7] = 0xC0000005;
+    pour(g, want, 0, 3, 8);
+    CHECK(same(g, im, want) && report_is(g, im, 1, 8, 3, 0));
+
+    /* From a full block to another one. */
+    im[7] = want[7] = 0x80000005;
+    CHECK(do_fill(g, im, 5, 7) == 0 && counts_are(133, 0));
+    want[7] = 0x00000005;
+    seat(g, want, 1, 0, 0xC0000005);
+    pour(g, want, 1, 0, 7);
+    CHECK(same(g, im, want) && report_is(g, im, 1, 7, 4, 0));
+    free(im);
+    free(want);
+    free(table);
+}
+
+static void test_write_beside_passing(void)
+{
+    struct shape g = {3, 5, 7};
+    uint32_t *im = half_way(g), *want = half_way(g);
+
+    CHECK(do_fill(g, im, 6, 9) == 0 && counts_are(131, 0));
+    want[3] = 0xFFFFFFF8;
+    want[6] = 0xC0000006;
+    pour(g, want, 0, 2, 9);
+    CHECK(same(g, im, want));
+    CHECK(reads_fill(g, im, 5, 0x12345678) && reads_fill(g, im, 6, 9));
+
+    /* The range of the full block holds what is in passing too, but nothing
+     * that is dead: 7 is no number here. */
+    im[6] = want[6] = 0x80000007;
+    CHECK(do_fill(g, im, 3, 8) == 0 && counts_are(133, 0));
+    want[1] = 3;
+    want[2] = 5;
+    want[3] = 0xFFFFFFF0;
+    want[7] = 0xC0000003;
+    pour(g, want, 0, 3, 8);
+    CHECK(same(g, im, want) && report_is(g, im, 2, 8, 2, 0));
+    CHECK(reads_fill(g, im, 5, 0x12345678) && reads_fill(g, im, 3, 8));
+    free(im);
+    free(want);
+}
+
+static void test_release_passing(void)
+{
+    struct shape g = {3, 5, 7};
+    uint32_t *im = half_way(g), *want = half_way(g);
+    uint16_t *table = random_table(g.l);
+    uint32_t got[SECTOR];
+
+    CHECK(do_release(g, im, 5) == 0 && counts_are(1, 0));
+    want[4] = 0x00000005;
+    CHECK(same(g, im, want) && report_is(g, im, 0, 10, 2, 0));
+    CHECK(do_release(g, im, 5) == 5 && do_read(g, im, 5, got) == 5);
+    im[4] = 0x80000005;
+    CHECK(do_build(g, im, table) == 0 && table[5] == 0);
+    CHECK(do_release_with(g, im, 5, table) == 0 && counts_are(1, 0));
+    CHECK(same(g, im, want) && is_right(g, im, table) && table[5] == NONE);
+    CHECK(do_fill_with(g, im, 5, 1, table) == 0 && counts_are(131, 0));
+    CHECK(im[4] == 0x00000005 && im[6] == 0xC0000005 && table[5] == 2);
+    free(im);
+    free(want);
+    free(table);
+}
+
+/* Block and slot go through the image as one number. */
+static void test_superseded_anywhere(void)
+{
+    struct shape g = {5, 4, 9};
+    uint32_t d = d_of(g);
+
+    for (uint32_t p = 0; p < g.b * d; p++)
+        for (uint32_t q = 0; q < g.b * d; q++) {
+            uint32_t *im = fresh(g);
+
+            seat(g, im, p / d, p % d, PASSING + 8);
+            pour(g, im, p / d, p % d, p);
+            VERDICT(0, 0);
+            CHECK(reads_fill(g, im, 8, p) && report_is(g, im, 1, 14, 0, 0));
+            if (q != p) {
+                seat(g, im, q / d, q % d, LIVE + 8);
+                VERDICT(p / d, 8);
+                REFUSED_BY_ALL(8);
+                *entry_of(g, im, q / d, q % d) = LIVE + 7; /* another one */
+                VERDICT(0, 0);
+                *entry_of(g, im, q / d, q % d) = 0xE0000008; /* not complete */
+                VERDICT(0, 0);
+                *entry_of(g, im, q / d, q % d) = 0x40000008; /* released */
+                VERDICT(0, 0);
+                CHECK(reads_fill(g, im, 8, p));
+                CHECK(report_is(g, im, 1, 13, 1, 0));
+            }
+            free(im);
+        }
+}
+
+/* Two in passing, p before q, and then a third slot. */
+static void test_two_in_passing(void)
+{
+    struct shape g = {5, 5, 9};
+    uint32_t d = d_of(g);
+
+    for (uint32_t q = 0; q < g.b * d; q++)
+        for (uint32_t p = 0; p < q; p++) {
+            uint32_t *im = fresh(g);
+
+            seat(g, im, p / d, p % d, PASSING + 8);
+            seat(g, im, q / d, q % d, PASSING + 8);
+            VERDICT(q / d, 5);
+            for (uint32_t r = 0; r < g.b * d; r += 1 + below(3)) {
+                if (r == p || r == q)
+                    continue;
+                seat(g, im, r / d, r % d, LIVE + 8);
+                VERDICT(p / d, 8); /* both are superseded, so not live */
+                *entry_of(g, im, r / d, r % d) = ONES;
+                *map_of(g, im, r / d, r % d) |= UINT32_C(1) << r % d;
+            }
+            VERDICT(q / d, 5);
+            REFUSED_BY_ALL(8);
+            free(im);
+        }
+}
+
+/* Two complete, p before q, and one in passing that both supersede. */
+static void test_two_complete_and_one_in_passing(void)
+{
+    struct shape g = {5, 5, 9};
+    uint32_t d = d_of(g);
+
+    for (uint32_t q = 0; q < g.b * d; q++)
+        for (uint32_t i = 0; i < q * g.b * d; i++) {
+            uint32_t p = i / (g.b * d), r = i % (g.b * d);
+            uint32_t *im;
+
+            if (r == p || r == q)
+                continue;
+            im = fresh(g);
+            seat(g, im, p / d, p % d, LIVE + 8);
+            seat(g, im, q / d, q % d, LIVE + 8);
+            seat(g, im, r / d, r % d, PASSING + 8);
+            CHECK(broken(g, im) == (1u << 5 | 1u << 8));
+            if (r / d < q / d)
+                NAMED(r / d, 8);
+            else
+                NAMED(q / d, 5);
+            free(im);
+        }
+}
+
+/* Nothing is live with a number of L or more. */
+static void test_passing_of_no_number(void)
+{
+    static const uint32_t tails[] = {9, 10, 0x108, 0x10000, 0x10008,
+                                     0x10000000, 0x10000008, 0x1FFFFFFF};
+    struct shape g = {5, 4, 9};
+
+    for (size_t i = 0; i < sizeof tails / sizeof tails[0]; i++) {
+        uint32_t *im = fresh(g);
+        uint16_t *table = random_table(g.l);
+
+        seat(g, im, 0, 0, LIVE + 8);
+        pour(g, im, 0, 0, 6);
+        seat(g, im, 0, 2, PASSING + tails[i]);
+        seat(g, im, 2, 1, PASSING + tails[i]);
+        VERDICT(0, 0);
+        CHECK(report_is(g, im, 1, 12, 2, 0) && reads_fill(g, im, 8, 6));
+        CHECK(do_build(g, im, table) == 0);
+        CHECK(TABLE_IS(NONE, NONE, NONE, NONE, NONE, NONE, NONE, NONE, 0));
+        /* Nor is it superseded by what is a fault itself. */
+        seat(g, im, 1, 1, LIVE + tails[i]);
+        VERDICT(1, 4);
+        REFUSED_BY_ALL(8);
+        *entry_of(g, im, 2, 1) = PASSING + 7; /* live beside the fault */
+        VERDICT(1, 4);
+        *entry_of(g, im, 2, 1) = PASSING + 8;
+        CHECK(broken(g, im) == (1u << 4 | 1u << 8));
+        NAMED(1, 4);
+        free(im);
+        free(table);
+    }
+}
+
+/* Rule 8 behind and before the others. */
+static void test_r8_among_others(void)
+{
+    struct shape g = {4, 5, 9};
+    uint32_t *im = fresh(g);
+    uint32_t *h = head_of(g, im, 1);
+
+    seat(g, im, 1, 1, PASSING + 1);
+    seat(g, im, 2, 0, LIVE + 1);
+    VERDICT(1, 8);
+    head_of(g, im, 2)[0] = 1000001; /* in the block of the complete one */
+    NAMED(1, 8);
+    seat(g, im, 0, 0, 0);
+    seat(g, im, 3, 0, 0);
+    CHECK(broken(g, im) == (1u << 1 | 1u << 6 | 1u << 8));
+    NAMED(1, 8); /* and no block blank */
+    head_of(g, im, 2)[0] = 0;
+    CHECK(broken(g, im) == (1u << 6 | 1u << 8));
+    NAMED(1, 8);
+    h[2] = 5;
+    NAMED(1, 7);
+    seat(g, im, 1, 2, LIVE + 5);
+    seat(g, im, 1, 3, LIVE + 5);
+    NAMED(1, 5);
+    *entry_of(g, im, 1, 3) = LIVE + 9;
+    NAMED(1, 4);
+    data_of(g, im, 1, 0)[0] = 0;
+    NAMED(1, 3);
+    *map_of(g, im, 1, 3) |= 8;
+    NAMED(1, 2);
+    h[0] = ONES;
+    NAMED(1, 1);
+    head_of(g, im, 0)[1] = 0;
+    NAMED(0, 7);
+    free(im);
+}
+
+/* In a full block the number of a superseded slot is no part of the range. */
+static void test_r8_in_a_full_block(void)
+{
+    struct shape g = {4, 5, 9};
+    uint32_t *im = fresh(g);
+    uint32_t *h = head_of(g, im, 1);
+
+    seat(g, im, 1, 0, PASSING + 0);
+    seat(g, im, 1, 1, LIVE + 3);
+    seat(g, im, 1, 2, PASSING + 5);
+    seat(g, im, 1, 3, PASSING + 8);
+    h[1] = 0;
+    h[2] = 8;
+    VERDICT(0, 0);
+    CHECK(report_is(g, im, 4, 12, 0, 0));
+    h[1] = 3;
+    VERDICT(1, 7);
+    h[1] = 0;
+    h[2] = 7;
+    VERDICT(1, 7);
+    seat(g, im, 3, 0, LIVE + 8);
+    VERDICT(1, 8);
+    h[1] = 3;
+    CHECK(broken(g, im) == (1u << 7 | 1u << 8));
+    NAMED(1, 7);
+    seat(g, im, 0, 2, LIVE + 0);
+    VERDICT(1, 8);
+    h[2] = 5;
+    VERDICT(1, 8);
+    REFUSED_BY_ALL(5);
+    h[2] = 4;
+    NAMED(1, 7);
+    h[2] = ONES;
+    NAMED(1, 7);
+    REFUSED_BY_ALL(5);
+    free(im);
+}
+
+/* Taken without an entry: dead, and passed over by the choice of a slot. */
+static void test_taken_for_nothing(struct shape g)
+{
+    uint32_t d = d_of(g), all = g.b * d;
+    uint32_t *im = fresh(g);
+    uint32_t *h = head_of(g, im, 1);
+
+    for (uint32_t s = 0; s < d; s++) {
+        seat(g, im, 1, s, ONES);
+        for (uint32_t i = 0; i < 128; i++)
+            data_of(g, im, 1, s)[i] = rnd();
+        if (s + 1 < d) {
+            VERDICT(0, 0);
+        } else {
+            VERDICT(1, 7);
+            REFUSED_BY_ALL(0);
+            h[1] = rnd() / 2;
+            h[2] = rnd() / 2;
+            VERDICT(0, 0);
+        }
+        CHECK(report_is(g, im, 0, all - s - 1, s + 1, 0));
+        if (s + 2 == d) {
+            uint32_t *own = copy_of(g, im);
+
+            CHECK(do_fill(g, own, 1, 4) == 0 && counts_are(133, 0));
+            CHECK(*entry_of(g, own, 1, d - 1) == LIVE + 1);
+            CHECK(head_of(g, own, 1)[1] == 1 && head_of(g, own, 1)[2] == 1);
+            CHECK(report_is(g, own, 1, all - d, d - 1, 0));
+            free(own);
+        } else if (s + 1 < d) {
+            uint32_t *own = copy_of(g, im);
+
+            CHECK(do_fill(g, own, 1, 4) == 0 && counts_are(131, 0));
+            CHECK(*entry_of(g, own, 1, s + 1) == LIVE + 1);
+            CHECK(*entry_of(g, own, 1, s) == ONES && reads_fill(g, own, 1, 4));
+            free(own);
+        }
+    }
+    free(im);
+}
+
+/* (3,3,2) with block 0 full of the two numbers and block 2 blank.  Block 1 is
+ * open with its first slot taken, full with both. */
+static void test_taken_and_the_choice(void)
+{
+    struct shape g = {3, 3, 2};
+    uint32_t *im = fresh(g);
+
+    seat(g, im, 0, 0, PASSING + 1);
+    seat(g, im, 0, 1, LIVE + 0);
+    head_of(g, im, 0)[1] = 0;
+    head_of(g, im, 0)[2] = 1;
+    pour(g, im, 0, 0, 11);
+    seat(g, im, 1, 0, ONES);
+    pour(g, im, 1, 0, 0);
+    VERDICT(0, 0);
+    CHECK(do_fill(g, im, 1, 12) == 0 && counts_are(135, 0));
+    CHECK(*entry_of(g, im, 0, 0) == 1 && *entry_of(g, im, 1, 1) == LIVE + 1);
+    CHECK(head_of(g, im, 1)[1] == 1 && head_of(g, im, 1)[2] == 1);
+    CHECK(report_is(g, im, 2, 2, 2, 0) && reads_fill(g, im, 1, 12));
+
+    *entry_of(g, im, 0, 0) = PASSING + 1;
+    *entry_of(g, im, 1, 1) = ONES;
+    head_of(g, im, 0)[0] = 7;
+    CHECK(report_is(g, im, 2, 2, 2, 7) && reads_fill(g, im, 1, 11));
+    head_of(g, im, 1)[0] = 1000000;
+    CHECK(do_fill(g, im, 0, 13) == 6 && counts_are(0, 0));
+    head_of(g, im, 1)[0] = 2;
+    CHECK(do_fill(g, im, 0, 13) == 0 && counts_are(134, 1));
+    CHECK(*entry_of(g, im, 2, 0) == LIVE && head_of(g, im, 1)[0] == 3);
+    CHECK(all_are(head_of(g, im, 1) + 1, 383, ONES));
+    CHECK(*entry_of(g, im, 0, 0) == PASSING + 1);
+    CHECK(report_is(g, im, 2, 3, 1, 10) && reads_fill(g, im, 1, 11));
+    free(im);
+}
+
+/* Two full blocks of (3,7,10), the first with three live slots of which two
+ * are in passing, and with three dead ones of which one has a free entry. */
+static uint32_t *two_full(struct shape g)
+{
+    static const uint32_t entries[12] = {
+        ONES, PASSING + 3, LIVE + 1, PASSING + 10, 0xE0000009, PASSING + 0,
+        LIVE + 2, PASSING + 4, LIVE + 5, LIVE + 6, LIVE + 7, PASSING + 8,
+    };
+    uint32_t *im = fresh(g);
+
+    for (uint32_t p = 0; p < 12; p++) {
+        seat(g, im, p / 6, p % 6, entries[p]);
+        pour(g, im, p / 6, p % 6, 100 + p);
+        head_of(g, im, p / 6)[1] = 0;
+        head_of(g, im, p / 6)[2] = 9;
+    }
+    CHECK(broken(g, im) == 0 && report_is(g, im, 9, 6, 3, 0));
+    return im;
+}
+
+static void test_reclaim_of_passing(void)
+{
+    struct shape g = {3, 7, 10};
+    uint32_t *im = two_full(g);
+    uint32_t *want = copy_of(g, im);
+    uint16_t *table = random_table(g.l);
+
+    CHECK(do_build(g, im, table) == 0);
+    CHECK(TABLE_IS(5, 2, 6, 1, 7, 8, 9, 10, 11, NONE));
+    CHECK(do_fill_with(g, im, 9, 77, table) == 0);
+    CHECK(counts_are(3 * 133 + 1 + 131, 1));
+    memset(want, 0xFF, 7 * 512);
+    want[0] = 1;
+    seat(g, want, 2, 0, LIVE + 3);
+    pour(g, want, 2, 0, 101);
+    seat(g, want, 2, 1, LIVE + 1);
+    pour(g, want, 2, 1, 102);
+    seat(g, want, 2, 2, LIVE + 0);
+    pour(g, want, 2, 2, 105);
+    seat(g, want, 2, 3, LIVE + 9);
+    pour(g, want, 2, 3, 77);
+    CHECK(same(g, im, want) && report_is(g, im, 10, 8, 0, 1));
+    CHECK(TABLE_IS(14, 13, 6, 12, 7, 8, 9, 10, 11, 15));
+    CHECK(reads_fill(g, im, 0, 105) && reads_fill(g, im, 4, 107));
+    free(im);
+    free(want);
+
+    /* The number written is one that is moved, or one that stays. */
+    im = two_full(g);
+    CHECK(do_fill(g, im, 3, 77) == 0 && counts_are(3 * 133 + 1 + 133, 1));
+    CHECK(*entry_of(g, im, 2, 0) == 3 && *entry_of(g, im, 2, 3) == LIVE + 3);
+    CHECK(report_is(g, im, 9, 8, 1, 1) && reads_fill(g, im, 3, 77));
+    free(im);
+    im = two_full(g);
+    CHECK(do_fill(g, im, 4, 77) == 0 && counts_are(3 * 133 + 1 + 133, 1));
+    CHECK(*entry_of(g, im, 1, 1) == 4 && *entry_of(g, im, 2, 3) == LIVE + 4);
+    CHECK(report_is(g, im, 9, 8, 1, 1) && reads_fill(g, im, 4, 77));
+    free(im);
+    free(table);
+}
+
+/* Most dead slots: those in passing are not among them, but a slot with a free
+ * entry is. */
+static void test_victim_by_kinds(void)
+{
+    struct shape g = {3, 4, 5};
+    uint32_t *im = fresh(g);
+
+    seat(g, im, 0, 0, PASSING + 0);
+    seat(g, im, 0, 1, PASSING + 1);
+    seat(g, im, 0, 2, PASSING + 5);
+    seat(g, im, 1, 0, LIVE + 2);
+    seat(g, im, 1, 1, 0x40000003);
+    seat(g, im, 1, 2, ONES);
+    for (uint32_t b = 0; b < 2; b++) {
+        head_of(g, im, b)[1] = 0;
+        head_of(g, im, b)[2] = 2;
+    }
+    VERDICT(0, 0);
+    CHECK(report_is(g, im, 3, 3, 3, 0));
+    CHECK(do_fill(g, im, 4, 1) == 0 && counts_are(133 + 1 + 131, 1));
+    CHECK(head_of(g, im, 0)[0] == 0 && head_of(g, im, 1)[0] == 1);
+    CHECK(*entry_of(g, im, 2, 0) == LIVE + 2);
+    CHECK(*entry_of(g, im, 2, 1) == LIVE + 4);
+    CHECK(report_is(g, im, 4, 4, 1, 1));
+    free(im);
+}
+
+static void test_build_with_passing(void)
+{
+    struct shape g = {3, 5, 7};
+    uint32_t *im = fresh(g);
+    uint16_t *table = random_table(g.l);
+
+    seat(g, im, 0, 0, PASSING + 7); /* no number here */
+    seat(g, im, 0, 1, PASSING + 6);
+    seat(g, im, 0, 2, 0x9FFFFFFF);
+    for (uint32_t s = 0; s < 4; s++)
+        seat(g, im, 2, s, s == 1 ? ONES : PASSING + s);
+    head_of(g, im, 2)[1] = 0;
+    head_of(g, im, 2)[2] = 3;
+    CHECK(do_build(g, im, table) == 0);
+    CHECK(TABLE_IS(8, NONE, 10, 11, NONE, NONE, 1));
+    seat(g, im, 0, 3, LIVE + 2);
+    head_of(g, im, 0)[1] = 2;
+    head_of(g, im, 0)[2] = 6;
+    CHECK(do_build(g, im, table) == 4 && bad_is((struct pair){2, 8}));
+    CHECK(TABLE_IS(8, NONE, 10, 11, NONE, NONE, 1));
+    *entry_of(g, im, 2, 2) = 2;
+    CHECK(do_build(g, im, table) == 0);
+    CHECK(TABLE_IS(8, NONE, 3, 11, NONE, NONE, 1));
+    free(im);
+    free(table);
+}
+
+/* ---- All images of the smallest shapes ---------------------------------- */
+
+/* The states of a slot with L 1: each of these with its bit clear and set. */
+static const uint32_t small_entries[] = {
+    ONES, LIVE, PASSING, LIVE + 1, PASSING + 1, 0xE0000000, 0,
+};
+
+#define SMALL_STATES \
+    (2 * (uint32_t)(sizeof small_entries / sizeof small_entries[0]))
+
+/* Words 1 and 2 as they ought to be, but for a few; what is not free gets
+ * contents of its own. */
+static void small_image(struct shape g, uint32_t *im, uint32_t states)
+{
+    for (uint32_t b = 0; b < g.b; b++) {
+        uint32_t *h = head_of(g, im, b);
+        uint32_t range;
+
+        h[3] = ONES;
+        for (uint32_t s = 0; s < d_of(g); s++) {
+            uint32_t *data = data_of(g, im, b, s);
+
+            *entry_of(g, im, b, s) = small_entries[states / 2 %
+                                                   (SMALL_STATES / 2)];
+            h[3] -= states % 2 == 0 ? UINT32_C(1) << s : 0;
+            states /= SMALL_STATES;
+            data[0] = data[127] = kind_of(g, im, b, s) == FREE ? ONES : b + s;
+        }
+        range = count_kind(g, im, b, FREE) > 0 ? ONES : 0;
+        h[1] = below(16) == 0 ? ~range : range;
+        h[2] = below(16) == 0 ? ~range : range;
+    }
+}
+
+static bool report_fits(struct shape g, uint32_t *im)
+{
+    uint32_t counts[3] = {0, 0, 0};
+
+    for (uint32_t b = 0; b < g.b; b++) {
+        counts[0] += count_kind(g, im, b, LIVING);
+        counts[1] += count_kind(g, im, b, FREE);
+        counts[2] += count_kind(g, im, b, DEAD);
+    }
+    return report_is(g, im, counts[0], counts[1], counts[2], 0);
+}
+
+/* What the calls do with a sound one, with a table that is right or wrong. */
+static void try_small_image(struct shape g, const uint32_t *im)
+{
+    for (uint32_t i = 0; i < 3 * CALLS; i++) {
+        struct lent a = {g, copy_of(g, im), len_of(g), 0, 128};
+        uint32_t *model = copy_of(g, im);
+        uint16_t *table = right_table(g, a.im);
+
+        call_and_compare(g, a.im, model, 0);
+        memcpy(a.im, im, len_of(g) * sizeof *im);
+        if (i >= CALLS)
+            table[0] = (uint16_t)below(g.b * d_of(g) + 1);
+        call_both((enum call)(i % CALLS), a, table);
+        free(a.im);
+        free(model);
+        free(table);
+    }
+}
+
+static void test_small_images(struct shape g)
+{
+    uint32_t *im = fresh(g);
+    uint32_t all = 1;
+    uint32_t first_of[9] = {0};
+
+    for (uint32_t p = 0; p < g.b * d_of(g); p++)
+        all *= SMALL_STATES;
+    for (uint32_t states = 0; states < all; states++) {
+        struct pair first;
+
+        small_image(g, im, states);
+        first = first_fault(g, im);
+        first_of[first.rule]++;
+        CHECK(do_check(g, im) == (first.rule == 0 ? 0u : 4u));
+        if (first.rule != 0)
+            continue;
+        CHECK(report_fits(g, im));
+        try_small_image(g, im);
+    }
+    CHECK(first_of[0] > 50);
+    for (uint32_t rule = 1; rule <= 8; rule++)
+        CHECK(rule == 1 || rule == 3 || first_of[rule] > 10);
+    free(im);
+}
+
+static void test_passing(void)
+{
+    test_words_of_a_write();
+    test_write_over_passing();
+    test_write_beside_passing();
+    test_release_passing();
+    test_superseded_anywhere();
+    test_two_in_passing();
+    test_two_complete_and_one_in_passing();
+    test_passing_of_no_number();
+    test_r8_among_others();
+    test_r8_in_a_full_block();
+    test_taken_for_nothing((struct shape){3, 5, 7});
+    test_taken_for_nothing((struct shape){3, 34, 60});
+    test_taken_for_nothing((struct shape){3, 64, 125});
+    test_taken_and_the_choice();
+    test_reclaim_of_passing();
+    test_victim_by_kinds();
+    test_build_with_passing();
+    test_small_images((struct shape){3, 2, 1});
+    test_small_images((struct shape){2, 3, 1});
 }
 
 int main(void)
@@ -2774,6 +3585,7 @@ int main(void)
     test_drawn_images();
     test_damaged_images();
     test_tables();
+    test_passing();
     printf("%lu passed, %lu failed\n", passed, failed);
     return failed == 0 ? 0 : 1;
 }

@@ -1,5 +1,5 @@
-/* inspect looks at files of every kind: sound images, such with planted faults, with flipped bits and changed words, random ones, cut ones,
- * too long ones, and those of another geometry.
+/* inspect looks at files of every kind: sound images, such with planted faults, with slots as a placing has them halfway, with flipped bits and changed
+ * words, random ones, cut ones, too long ones, and those of another geometry.
  *
  *     any_file SEED FILES FOLDER
  *
@@ -7,7 +7,7 @@
  * verdict (of planted faults the one that was planted); and of a sound image that nothing is broken, the totals, what the next write does (by a
  * write on a copy) and the bytes of a sector. The picture has a cell for each slot, and a mark for the bad block. Of each eighth file, if it could be
  * looked at, the image, the words and the picture stay in the folder for tests/opinion; the file LIST says which. It fails too where some kind of
- * file or some outcome never came about.
+ * file, some outcome or some remark on a slot or a block never came about.
  *
  * The test of this test: compiled with -DSPOIL it changes an erase count in some files when it has noted what to expect, and must fail. */
 #include <stdarg.h>
@@ -24,7 +24,7 @@ static const struct geometry geometries[] = {{2, 3, 1},   {3, 2, 1},   {64, 2, 6
                                              {5, 5, 15},  {8, 16, 90}, {4, 32, 90}, {7, 33, 100},  {7, 34, 190},   {2, 64, 62},
                                              {3, 5, 7},   {5, 3, 7},   {2, 16, 14}, {16, 2, 14},   {64, 64, 3968}};
 enum { GEOMETRIES = sizeof geometries / sizeof *geometries, LARGE = GEOMETRIES - 1, LARGE_EVERY = 1600, KEPT_EVERY = 8 };
-enum kind { SOUND, PLANTED, FLIPPED, RANDOM, CUT, TOO_LONG, OTHER_GEOMETRY, FILE_KINDS };
+enum kind { SOUND, PLANTED, HALFWAY, FLIPPED, RANDOM, CUT, TOO_LONG, OTHER_GEOMETRY, FILE_KINDS };
 enum { OUTCOMES = 3, TEXT = 1 << 17, PICTURE = 1 << 21 };
 
 #ifdef SPOIL
@@ -32,6 +32,11 @@ enum { SPOILED = 1 };
 #else
 enum { SPOILED = 0 };
 #endif
+
+/* What a picture says of slots as a placing has them halfway, of which the first two are no fault, and of words 1 and 2 of a full block. */
+static const char *const remarks[] = {"; in passing", "; taken, with a free entry", "; breaks R8: ",
+                                      " while no slot is free; it should not be all ones"};
+enum { REMARKS = sizeof remarks / sizeof *remarks, SOUND_REMARKS = 2 };
 
 /* A file, and what to expect of it. */
 struct trial {
@@ -49,6 +54,7 @@ static const char *folder;
 static FILE *kept;
 static char file_name[512], picture_name[512], text[TEXT], complaint[TEXT], picture[PICTURE];
 static unsigned long seen_kind[FILE_KINDS], seen_status[OUTCOMES], seen_rule[RULES + 1], seen_reclaim, seen_worn, seen_sector;
+static unsigned long seen_remark[REMARKS], seen_in_sound[SOUND_REMARKS];
 
 static void fail(const struct trial *t, const char *why)
 {
@@ -72,6 +78,36 @@ static void flip_bits(struct trial *t)
         uint32_t b = below(t->g.blocks), word = one_in(2) ? below(68) : below(t->g.sectors * SECTOR);
         block_of(t->g, t->image, b)[word % (t->g.sectors * SECTOR)] ^= 1u << below(32);
     }
+}
+
+/* Some slot as a placing has it halfway. A free one is taken, and has its free entry still; a complete entry is in passing, and live still; any other
+ * becomes one in passing, which is superseded if its number has a complete one. */
+static void leave_slot_halfway(struct trial *t)
+{
+    uint32_t slots = slots_of(t->g), slot = below(slots), *block = block_of(t->g, t->image, below(t->g.blocks));
+    uint32_t *entry = block + 3 + (slots + 31) / 32 + slot;
+    if (*entry == 0xFFFFFFFFu)
+        block[3 + slot / 32] &= ~(1u << slot % 32);
+    else if (*entry >> 29 == 6)
+        *entry &= ~(1u << 30);
+    else
+        *entry = 0x80000000u + below(t->g.logical);
+}
+
+/* Some block as the placing that fills it has it halfway: every slot is taken, and words 1 and 2, which would bound any number, may be all ones yet. */
+static void leave_block_halfway(struct trial *t)
+{
+    uint32_t *block = block_of(t->g, t->image, below(t->g.blocks));
+    for (uint32_t slot = 0; slot < slots_of(t->g); slot++)
+        block[3 + slot / 32] &= ~(1u << slot % 32);
+    block[1] = one_in(3) ? 0xFFFFFFFFu : 0;
+    block[2] = one_in(3) ? 0xFFFFFFFFu : t->g.logical - 1;
+}
+
+static void leave_halfway(struct trial *t)
+{
+    for (uint32_t n = 1 + below(6); n > 0; n--)
+        one_in(6) ? leave_block_halfway(t) : leave_slot_halfway(t);
 }
 
 static void make_random(struct trial *t)
@@ -108,8 +144,8 @@ static void expect(struct trial *t)
 
 static enum kind some_kind(void)
 {
-    static const enum kind kinds[] = {SOUND, SOUND, PLANTED, FLIPPED, FLIPPED, FLIPPED, FLIPPED, RANDOM, RANDOM, RANDOM, RANDOM, CUT, CUT, CUT,
-                                      TOO_LONG, OTHER_GEOMETRY};
+    static const enum kind kinds[] = {SOUND, SOUND, PLANTED, HALFWAY, HALFWAY, FLIPPED, FLIPPED, FLIPPED, FLIPPED, RANDOM, RANDOM, RANDOM, RANDOM,
+                                      CUT, CUT, CUT, TOO_LONG, OTHER_GEOMETRY};
     return kinds[below(sizeof kinds / sizeof *kinds)];
 }
 
@@ -120,6 +156,7 @@ static struct trial make_trial(unsigned long round, uint32_t *image)
     make_image(g, image);
     switch (t.kind) {
     case PLANTED: plant_faults(&t.planted, g, image); break;
+    case HALFWAY: leave_halfway(&t); break;
     case FLIPPED: one_in(4) ? damage(g, image) : flip_bits(&t); break;
     case RANDOM: make_random(&t); break;
     default: break;
@@ -213,7 +250,8 @@ static void hold_totals(const struct trial *t)
 {
     struct shellwaltz_part part = part_of(t, t->image);
     struct shellwaltz_totals totals = shellwaltz_part_report(&part);
-    must_have(t, text, ", %u live, %u free, %u dead, 0 faulty.\n", (unsigned)totals.mapped, (unsigned)totals.free_slots, (unsigned)totals.dead);
+    must_have(t, text, ", %u live, %u free, %u dead, 0 superseded, 0 faulty.\n", (unsigned)totals.mapped, (unsigned)totals.free_slots,
+              (unsigned)totals.dead);
     must_have(t, text, "Erase counts: %u in all, ", (unsigned)totals.erase_sum);
 }
 
@@ -258,6 +296,16 @@ static void hold_sector(const struct trial *t)
         hold_line(t, buffer, start);
 }
 
+static void note_remarks(const struct trial *t)
+{
+    for (unsigned r = 0; r < REMARKS; r++) {
+        unsigned long times = count(picture, remarks[r]);
+        seen_remark[r] += times;
+        if (r < SOUND_REMARKS && t->status == INSPECT_SOUND)
+            seen_in_sound[r] += times;
+    }
+}
+
 static void hold_picture(const struct trial *t)
 {
     FILE *file = fopen(picture_name, "rb");
@@ -269,6 +317,9 @@ static void hold_picture(const struct trial *t)
         fail(t, "the picture has not a cell for each slot");
     if (count(picture, "<rect class=\"bad\"") != (t->status == INSPECT_MALFORMED))
         fail(t, "the picture does not mark the one bad block");
+    if (count(picture, "<rect class=\"cell superseded\"") != count(picture, "; breaks R8: "))
+        fail(t, "the picture does not say of each superseded slot, and of no other, that it breaks rule 8");
+    note_remarks(t);
 }
 
 /* The words go beside the image and the picture, and the three into the list. */
@@ -335,12 +386,14 @@ int main(int argc, char **argv)
     free(image);
     bool complete = kept && fclose(kept) == 0;
     printf("inspect: %lu files", files);
-    complete &= show_counts("; sound, planted, flipped, random, cut, too long, of another geometry", seen_kind, FILE_KINDS);
+    complete &= show_counts("; sound, planted, halfway, flipped, random, cut, too long, of another geometry", seen_kind, FILE_KINDS);
     complete &= show_counts("; status 0, 1, 2", seen_status, OUTCOMES);
-    complete &= show_counts("; rule 1 to 7 the answer", seen_rule + 1, RULES);
+    complete &= show_counts("; rule 1 to 8 the answer", seen_rule + 1, RULES);
     complete &= show_counts("; the next write reclaims", &seen_reclaim, 1);
     complete &= show_counts(", is refused", &seen_worn, 1);
     complete &= show_counts("; sectors", &seen_sector, 1);
+    complete &= show_counts("; slots in passing, taken, superseded, full blocks without word 1 or 2", seen_remark, REMARKS);
+    complete &= show_counts("; in passing and taken in sound images", seen_in_sound, SOUND_REMARKS);
     puts(complete ? "" : " <- a 0: it never came about");
     return complete ? 0 : 1;
 }

@@ -162,7 +162,7 @@ int main(void)
         return 1;
     }
     sentences(shellwaltz_meaning, 6);
-    sentences(shellwaltz_rule_meaning, 7);
+    sentences(shellwaltz_rule_meaning, 8);
     printf("short calls: %u calls give and leave what the proved functions do, with a table and without; a sentence for each answer and rule\n",
            compared);
     return 0;

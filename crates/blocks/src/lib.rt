@@ -4,8 +4,8 @@ ghost use mathlib.Core.Path.{_≡_};
 ghost use Prim.Native.Nat.{_<_};
 ghost use Rattle.ranges.specs.Range.{countBelow};
 ghost use Rattle.image.specs.Words.{Shaped, eraseCount};
-ghost use Rattle.image.specs.Blocks.{blank, tally, freeSlots, lowestFree, lowestOpen, leastWornBlank, victim};
-ghost use Rattle.image.specs.WellFormed.{R2, MapsAgree};
+ghost use Rattle.image.specs.Blocks.{blank, tally, freeSlots, liveSlots, lowestFree, lowestOpen, leastWornBlank, victim};
+ghost use Rattle.image.specs.WellFormed.{R2, sound, MapsAgree, NoneSuperseded};
 use geometry::Geometry;
 use image::Slot;
 use image::Tally;
@@ -19,40 +19,6 @@ pub fn erase_count(image: &[u32], geo: Geometry, b: usize) -> u32
 {
     let at = geo.start(b);
     image[at]
-}
-
-// The free, live and dead slots of block b, by its entries. A block has a slot at least, so the loop asks last.
-pub fn tally(image: &[u32], geo: Geometry, b: usize) -> Tally
-    requires { ⌜ Shaped geo (now image) ⌝ }
-    requires { ⌜ b < geo .blocks ⌝ }
-    ensures { λ r. ⌜ r ≡ tally geo (now (image .entry)) b ⌝ }
-{
-    let d = geo.d();
-    let logical = geo.logical;
-    let base = geo.entries_start(b);
-    let mut free = 0u32;
-    let mut live = 0u32;
-    let mut dead = 0u32;
-    let mut i = 0usize;
-    loop {
-        match slot_of(logical, image[base + i]) {
-            Slot::Free => {
-                free += 1;
-            }
-            Slot::Live(_) => {
-                live += 1;
-            }
-            Slot::Dead => {
-                dead += 1;
-            }
-            Slot::Faulty => {}
-        }
-        i += 1;
-        if i == d {
-            break;
-        }
-    }
-    Tally { free, live, dead }
 }
 
 // The free slots of block b, by a count of ones: the map's words have a one for each, and ones from d on. The map has a word at least, so the
@@ -76,6 +42,49 @@ pub fn free_slots(image: &[u32], geo: Geometry, b: usize) -> usize
         }
     }
     total - (k * 32 - d)
+}
+
+// The live slots of block b, by its entries: whether an entry is live, the map bit does not say. A block has a slot at least, so the loop asks last.
+fn live_slots(image: &[u32], geo: Geometry, b: usize) -> u32
+    requires { ⌜ Shaped geo (now image) ⌝ }
+    requires { ⌜ NoneSuperseded geo (now image) ⌝ }
+    requires { ⌜ b < geo .blocks ⌝ }
+    ensures { λ r. ⌜ r ≡ liveSlots geo (now (image .entry)) b ⌝ }
+{
+    let d = geo.d();
+    let logical = geo.logical;
+    let base = geo.entries_start(b);
+    let mut live = 0u32;
+    let mut i = 0usize;
+    loop {
+        match slot_of(logical, false, image[base + i]) {
+            Slot::Live(_) => {
+                live += 1;
+            }
+            Slot::Free => {}
+            Slot::Dead => {}
+            Slot::Faulty => {}
+            Slot::Superseded => {}
+        }
+        i += 1;
+        if i == d {
+            break;
+        }
+    }
+    live
+}
+
+// The free, live and dead slots of block b of a sound image: what is neither free nor live is dead.
+pub fn tally(image: &[u32], geo: Geometry, b: usize) -> Tally
+    requires { ⌜ Shaped geo (now image) ⌝ }
+    requires { ⌜ sound geo (now image) ≡ true ⌝ }
+    requires { ⌜ b < geo .blocks ⌝ }
+    ensures { λ r. ⌜ r ≡ tally geo (now (image .entry)) b ⌝ }
+{
+    let free = free_slots(image, geo, b) as u32;
+    let live = live_slots(image, geo, b);
+    let dead = geo.d() as u32 - free - live;
+    Tally { free, live, dead }
 }
 
 // The lowest free slot of block b, by the trailing zeros of a map word; d where none is free.
@@ -187,6 +196,7 @@ pub fn least_worn_blank(image: &[u32], geo: Geometry) -> usize
 // is full.
 pub fn victim(image: &[u32], geo: Geometry) -> usize
     requires { ⌜ Shaped geo (now image) ⌝ }
+    requires { ⌜ sound geo (now image) ≡ true ⌝ }
     ensures { λ r. ⌜ r ≡ victim geo (now (image .entry)) ⌝ }
 {
     let blocks = geo.blocks as usize;

@@ -1,7 +1,7 @@
 // Runs cases of docs/FORMAT.md (Figures, The script program, Rules of a well-formed image, The first failing pair) over the calls at (8,16,90)
 // and prints what they answer, a line each: an image that breaks one rule alone and the sound one beside it, images with two faults, the
-// session of four records, sector 0 written 106 times, and the victim's count on either side of the ceiling. The file stdout is what FORMAT.md
-// says of each.
+// session of four records, calls over an entry in passing and a slot that was taken, sector 0 written 106 times, and the victim's count on either
+// side of the ceiling. The file stdout is what FORMAT.md says of each.
 use geometry::Geometry;
 use libc::STDOUT_FILENO;
 
@@ -114,11 +114,12 @@ fn rule1(image: &mut [u32]) {
     sound(image, 1, 0, 0xFFFFFFFF, 0, 1000000);
 }
 
-// R2: a map bit cleared over a free entry; over a dead one.
+// R2: a map bit set over a dead entry; clear over it, and over a free one.
 fn rule2(image: &mut [u32]) {
     fresh(image);
-    broken(image, 2, 0, 0xFFFFFFFE, 4, 0xFFFFFFFF);
+    broken(image, 2, 0, 0xFFFFFFFF, 4, 0x00000005);
     sound(image, 2, 0, 0xFFFFFFFE, 4, 0x00000005);
+    sound(image, 2, 0, 0xFFFFFFFE, 4, 0xFFFFFFFF);
 }
 
 // R2: the map bit after the last slot's cleared; the last slot's, over a dead entry.
@@ -128,10 +129,11 @@ fn rule2_above(image: &mut [u32]) {
     sound(image, 2, 0, 0xFFFFBFFF, 18, 0x00000005);
 }
 
-// R3: the last word of the image programmed, its slot free; its slot dead.
+// R3: the last word of the image programmed, its slot free; its slot taken, with a free entry and with a dead one.
 fn rule3(image: &mut [u32]) {
     fresh(image);
     broken(image, 3, 7, 0xFFFFFFFF, 2047, 0xFFFFFFFE);
+    sound(image, 3, 7, 0xFFFFBFFF, 18, 0xFFFFFFFF);
     sound(image, 3, 7, 0xFFFFBFFF, 18, 0x00000005);
 }
 
@@ -142,12 +144,28 @@ fn rule4(image: &mut [u32]) {
     sound(image, 4, 0, 0xFFFFFFFE, 4, 0xC0000059);
 }
 
+// R4: a complete entry with the number L, beside one in passing; the one in passing alone, which is dead.
+fn rule4_passing(image: &mut [u32]) {
+    fresh(image);
+    put(image, 0, 0xFFFFFFFE, 4, 0x8000005A);
+    broken(image, 4, 1, 0xFFFFFFFE, 4, 0xC000005A);
+    sound(image, 4, 1, 0xFFFFFFFF, 4, 0xFFFFFFFF);
+}
+
 // R5: 5 live in two blocks; in one, and released in the other.
 fn rule5(image: &mut [u32]) {
     fresh(image);
     put(image, 0, 0xFFFFFFFE, 4, 0xC0000005);
     broken(image, 5, 1, 0xFFFFFFFE, 4, 0xC0000005);
     sound(image, 5, 1, 0xFFFFFFFE, 4, 0x40000005);
+}
+
+// R5: 5 in passing in two blocks; in one.
+fn rule5_passing(image: &mut [u32]) {
+    fresh(image);
+    put(image, 0, 0xFFFFFFFE, 4, 0x80000005);
+    broken(image, 5, 1, 0xFFFFFFFE, 4, 0x80000005);
+    sound(image, 5, 1, 0xFFFFFFFF, 4, 0xFFFFFFFF);
 }
 
 // R6: every block open; the last one blank.
@@ -185,17 +203,35 @@ fn fill(image: &mut [u32]) {
     set(image, 0, 2, 9);
 }
 
-// R7: a full block with 5 and 9 live and words 1 and 2 saying 6 to 9; 5 to 9.
+// R7: a full block with 5 and 9 live and words 1 and 2 saying 6 to 9; 5 to 9; 5 and all ones.
 fn rule7_full(image: &mut [u32]) {
     fresh(image);
     fill(image);
     broken(image, 7, 0, 0xFFFF8000, 1, 6);
     sound(image, 7, 0, 0xFFFF8000, 1, 5);
+    broken(image, 7, 0, 0xFFFF8000, 2, 0xFFFFFFFF);
 }
 
-// A fault of each rule, 1 to 7, in block b, as one word of the block and the map bits that stay. Each has a place of its own, so that two can
-// be in one block: the erase count; the map bit of slot 1; the last word of slot 14; the entry of slot 4; that of slot 3, live for 5; that of
-// slot 0; word 1.
+// R7: a full block with nothing live and words 1 and 2 all ones; word 1 alone; neither.
+fn rule7_unset(image: &mut [u32]) {
+    fresh(image);
+    fill_dead(image);
+    tell(image, b"R", 7);
+    broken(image, 7, 0, 0xFFFF8000, 2, 0);
+    sound(image, 7, 0, 0xFFFF8000, 1, 1000);
+}
+
+// R8: 5 in passing, and complete in a later block; released there.
+fn rule8(image: &mut [u32]) {
+    fresh(image);
+    put(image, 0, 0xFFFFFFFE, 4, 0x80000005);
+    broken(image, 8, 1, 0xFFFFFFFE, 4, 0xC0000005);
+    sound(image, 8, 1, 0xFFFFFFFE, 4, 0x40000005);
+}
+
+// A fault of each rule, 1 to 8, in block b, as one word of the block and the map bits that stay. Each has a place of its own, so that two can
+// be in one block: the erase count; the entry of slot 1, under its set bit; the last word of slot 14; the entry of slot 4; that of slot 3, live
+// for 5; that of slot 0; word 1; the entry of slot 5, in passing for 5.
 fn fault_word(rule: u32) -> usize {
     match rule {
         1 => 0,
@@ -204,27 +240,28 @@ fn fault_word(rule: u32) -> usize {
         4 => 8,
         5 => 7,
         6 => 4,
-        _ => 1,
+        7 => 1,
+        _ => 9,
     }
 }
 
 fn fault_value(rule: u32) -> u32 {
     match rule {
         1 => 1000001,
-        2 => 0xFFFFFFFF,
         3 => 0xFFFFFFFE,
         4 => 0xC000005A,
         5 => 0xC0000005,
+        8 => 0x80000005,
         _ => 5,
     }
 }
 
 fn fault_map(rule: u32) -> u32 {
     match rule {
-        2 => 0xFFFFFFFD,
         4 => 0xFFFFFFEF,
         5 => 0xFFFFFFF7,
         6 => 0xFFFFFFFE,
+        8 => 0xFFFFFFDF,
         _ => 0xFFFFFFFF,
     }
 }
@@ -243,8 +280,8 @@ fn plant(image: &mut [u32], rule: u32, b: u32) {
     }
 }
 
-// A sound image in which all blocks but the last are open, and 5 is live in slot 2 of block 0: so a fault of R5 is one more slot, and one of R6
-// is one slot of block 7.
+// A sound image in which all blocks but the last are open, and 5 is complete in slot 2 of block 0: so a fault of R5 or of R8 is one more slot,
+// and one of R6 is one slot of block 7.
 fn before_faults(image: &mut [u32]) {
     fresh(image);
     set_all(image, 3, 0xFFFFFFFE);
@@ -273,15 +310,15 @@ fn each_case(image: &mut [u32], cases: &[u32]) {
 // The first failing pair: each rule alone; with a fault in an earlier block, which is named whatever its rule, and in a later one, which is not;
 // with one in the same block that comes before it in the order, and after it; and R5 with the two slots in two blocks, in one, and with more.
 fn name_faults(image: &mut [u32]) {
-    let alone = [1300, 2300, 3300, 4300, 5300, 6700, 7300];
+    let alone = [1300, 2300, 3300, 4300, 5300, 6700, 7300, 8300];
     each_case(image, &alone);
-    let earlier_block = [1372, 2372, 3372, 4372, 5372, 6777, 7352];
+    let earlier_block = [1372, 2372, 3372, 4372, 5372, 6777, 7352, 1382, 8372, 8382];
     each_case(image, &earlier_block);
-    let later_block = [1314, 2314, 3314, 4314, 5314, 7314];
+    let later_block = [1314, 2314, 3314, 4314, 5314, 7314, 8314];
     each_case(image, &later_block);
-    let earlier_rule = [2313, 3323, 4333, 5343, 6713, 7353];
+    let earlier_rule = [2313, 3323, 4333, 5343, 6713, 7353, 8373, 8353];
     each_case(image, &earlier_rule);
-    let later_rule = [1373, 2373, 3373, 4373, 5373, 7367];
+    let later_rule = [1373, 2373, 3373, 4373, 5373, 7367, 7383, 8367];
     each_case(image, &later_rule);
     let live_twice = [5500, 5000, 5574, 5552];
     each_case(image, &live_twice);
@@ -347,6 +384,34 @@ fn session(image: &mut [u32], buffer: &mut [u32]) {
     totals_line(image);
 }
 
+// 5 written, and its entry put in passing: it is read, and written again.
+fn passing_written(image: &mut [u32], buffer: &mut [u32]) {
+    fresh(image);
+    write_line(image, 5, 7);
+    set(image, 0, 4, 0x80000005);
+    read_line(image, 5, buffer);
+    write_line(image, 5, 9);
+    read_line(image, 5, buffer);
+}
+
+// Its new entry put in passing too, and 5 released; the two entries that are left.
+fn passing_released(image: &mut [u32]) {
+    set(image, 0, 5, 0x80000005);
+    release_line(image, 5);
+    show(get(image, 0, 4));
+    and(get(image, 0, 5));
+    end_line();
+}
+
+// A slot that is taken, slot 2: the next write passes it by.
+fn taken(image: &mut [u32]) {
+    set(image, 0, 3, 0xFFFFFFF8);
+    write_line(image, 6, 1);
+    show(get(image, 0, 7));
+    end_line();
+    totals_line(image);
+}
+
 // Which write is the first with an erasure, and what it reports; three zeros where none has one.
 struct First {
     write: u32,
@@ -402,23 +467,34 @@ fn victim(image: &mut [u32], count: u32) {
     end_line();
 }
 
-// An image that breaks each rule alone, and the sound one beside it.
+// An image that breaks each rule alone, and the sound one beside it: rules 1 to 4, and 5 to 8.
 fn check_rules(image: &mut [u32]) {
     rule1(image);
     rule2(image);
     rule2_above(image);
     rule3(image);
     rule4(image);
+    rule4_passing(image);
+}
+
+fn check_more_rules(image: &mut [u32]) {
     rule5(image);
+    rule5_passing(image);
     rule6(image);
     rule7_open(image);
     rule7_full(image);
+    rule7_unset(image);
+    rule8(image);
 }
 
 fn run(image: &mut [u32], buffer: &mut [u32]) {
     check_rules(image);
+    check_more_rules(image);
     name_faults(image);
     session(image, buffer);
+    passing_written(image, buffer);
+    passing_released(image);
+    taken(image);
     first_erasure(image);
     victim(image, 999999);
     victim(image, 1000000);

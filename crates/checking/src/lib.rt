@@ -1,46 +1,34 @@
-// What is wrong with an image: the first block and rule that fail, each block in turn, and every word a bounded number of times.
-ghost use mathlib.Core.Bool.{true, false, not, _&&_, _||_};
+// What is wrong with an image: the first block and rule that fail. A sound image is passed over once, by the slots' own kinds; only where that
+// finds something wrong, the slower walk of `naming` says what it is.
+ghost use mathlib.Core.Bool.{true};
 ghost use mathlib.Core.Path.{_≡_};
-ghost use Prim.Native.Nat.{ℕ, suc, _*_, _<_};
-ghost use lib.Dec.{eqb};
-ghost use lib.ListN.{length};
-ghost use Rattle.geometry.specs.Geometry.{d};
+ghost use Prim.Native.Nat.{suc, _<_};
 ghost use Rattle.image.specs.Words.{Shaped};
-ghost use Rattle.image.specs.WellFormed.{R2, R3, R4, R5, brokenRule};
+ghost use Rattle.image.specs.Slots.{ownSlot};
+ghost use Rattle.image.specs.WellFormed.{sound};
 ghost use Rattle.image.specs.Faults.{firstFault};
-ghost use Rattle.checking.specs.Marks.{markWords, seen, Marks};
+ghost use Rattle.rules.specs.Marks.{Marks};
+ghost use Rattle.checking.specs.OwnKinds.{fourByOwn, soundByOwn};
 use blocks::count_blank;
 use geometry::Geometry;
 use image::Fault;
 use image::Slot;
 use image::slots::slot_of;
+use naming::first_bad;
 use rules::contents_clean;
-use rules::first_of_2_to_5;
+use rules::mark;
+use rules::own_rule7;
 use rules::rest_set;
 use rules::rule1;
-use rules::rule7;
 
-// Marks the number n. Whether it was not marked before.
-fn mark(marks: &mut [u32], n: u32) -> bool
-    requires { ⌜ length (now marks) ≡ markWords ⌝ }
-    requires { ⌜ n < 32 * markWords ⌝ }
-    ensures { λ r. ⌜ r ≡ not (seen (now (marks .entry)) n) ⌝ }
-    ensures { λ r. ⌜ ((m : ℕ) → seen (now (marks .exit)) m ≡ (seen (now (marks .entry)) m || eqb n m)) ⌝ }
-{
-    let at = (n / 32) as usize;
-    let new = bits::is_set(marks[at], n % 32);
-    marks[at] = bits::clear_bit(marks[at], n % 32);
-    new
-}
-
-// R2 to R5 in one pass over the slots. The marks know the earlier blocks' numbers and learn this one's.
+// R2 to R5 in one pass over the slots, by their own kinds, of which none is superseded. The marks know the earlier blocks' numbers and learn
+// this one's.
 fn rules_2_to_5(image: &[u32], geo: Geometry, b: usize, marks: &mut [u32]) -> bool
     requires { ⌜ Shaped geo (now image) ⌝ }
     requires { ⌜ b < geo .blocks ⌝ }
-    requires { ⌜ Marks geo (now image) b 0 (now marks) ⌝ }
-    ensures { λ r. ⌜ r ≡ (R2 geo (now (image .entry)) b && R3 geo (now (image .entry)) b
-        && R4 geo (now (image .entry)) b && R5 geo (now (image .entry)) b) ⌝ }
-    ensures { λ r. ⌜ (r ≡ true → Marks geo (now (image .entry)) (suc b) 0 (now (marks .exit))) ⌝ }
+    requires { ⌜ Marks geo (ownSlot geo (now image)) b 0 (now marks) ⌝ }
+    ensures { λ r. ⌜ r ≡ fourByOwn geo (now (image .entry)) b ⌝ }
+    ensures { λ r. ⌜ (r ≡ true → Marks geo (ownSlot geo (now (image .entry))) (suc b) 0 (now (marks .exit))) ⌝ }
 {
     if !rest_set(image, geo, b) {
         return false;
@@ -51,10 +39,10 @@ fn rules_2_to_5(image: &[u32], geo: Geometry, b: usize, marks: &mut [u32]) -> bo
     for i in 0..d {
         let entry = image[entries + i];
         let set = bits::is_set(image[map + i / 32], (i % 32) as u32);
-        if set != (entry == 0xFFFF_FFFF) {
+        if set & (entry != 0xFFFF_FFFF) {
             return false;
         }
-        match slot_of(geo.logical, entry) {
+        match slot_of(geo.logical, set, entry) {
             Slot::Free => {
                 if !contents_clean(image, geo, b, i) {
                     return false;
@@ -69,29 +57,44 @@ fn rules_2_to_5(image: &[u32], geo: Geometry, b: usize, marks: &mut [u32]) -> bo
             Slot::Faulty => {
                 return false;
             }
+            Slot::Superseded => {}
         }
     }
     true
 }
 
-// The number of the first rule that block b breaks, of R1 to R5 and R7 in that order; 0 where it keeps them all.
-fn broken_rule(image: &[u32], geo: Geometry, b: usize, marks: &mut [u32]) -> u32
+// Whether block b keeps its rules, by the slots' own kinds.
+fn keeps_rules(image: &[u32], geo: Geometry, b: usize, marks: &mut [u32]) -> bool
     requires { ⌜ Shaped geo (now image) ⌝ }
     requires { ⌜ b < geo .blocks ⌝ }
-    requires { ⌜ Marks geo (now image) b 0 (now marks) ⌝ }
-    ensures { λ r. ⌜ r ≡ brokenRule geo (now (image .entry)) b ⌝ }
-    ensures { λ r. ⌜ (r ≡ 0 → Marks geo (now (image .entry)) (suc b) 0 (now (marks .exit))) ⌝ }
+    requires { ⌜ Marks geo (ownSlot geo (now image)) b 0 (now marks) ⌝ }
+    ensures { λ r. ⌜ r ≡ soundByOwn geo (now (image .entry)) b ⌝ }
+    ensures { λ r. ⌜ (r ≡ true → Marks geo (ownSlot geo (now (image .entry))) (suc b) 0 (now (marks .exit))) ⌝ }
 {
     if !rule1(image, geo, b) {
-        return 1;
+        return false;
     }
     if !rules_2_to_5(image, geo, b, marks) {
-        return first_of_2_to_5(image, geo, b);
+        return false;
     }
-    if !rule7(image, geo, b) {
-        return 7;
+    own_rule7(image, geo, b)
+}
+
+// Whether every block keeps its rules. A number that is live in two slots by their own kinds fails here, also where one of the two is
+// superseded: then R8 is broken.
+fn is_sound(image: &[u32], geo: Geometry) -> bool
+    requires { ⌜ Shaped geo (now image) ⌝ }
+    ensures { λ r. ⌜ r ≡ sound geo (now (image .entry)) ⌝ }
+{
+    let blocks = geo.blocks as usize;
+    let mut marks = [0xFFFF_FFFFu32; 124];
+    for b in 0..blocks {
+        let kept = keeps_rules(image, geo, b, &mut marks);
+        if !kept {
+            return false;
+        }
     }
-    0
+    true
 }
 
 // The first failing pair: each block by its rules in turn, then R6, which names block B; two zeros where the image is well formed.
@@ -99,14 +102,8 @@ pub fn first_fault(image: &[u32], geo: Geometry) -> Fault
     requires { ⌜ Shaped geo (now image) ⌝ }
     ensures { λ r. ⌜ r ≡ firstFault geo (now (image .entry)) ⌝ }
 {
-    let blocks = geo.blocks as usize;
-    let mut marks = [0xFFFF_FFFFu32; 124];
-    for b in 0..blocks {
-        let rule = broken_rule(image, geo, b, &mut marks);
-        if rule != 0 {
-            let block = b as u32;
-            return Fault { block, rule };
-        }
+    if !is_sound(image, geo) {
+        return first_bad(image, geo);
     }
     if count_blank(image, geo) == 0 {
         let past_all = geo.blocks as u32;

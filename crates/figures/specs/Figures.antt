@@ -1,20 +1,20 @@
 -- FORMAT.md, Figures: P1 to P9 as one table, each row what the definitions give beside what the page prints, and one statement of them all;
--- and likewise T1 to T4, of the lookup table (K2), and S1 to S3, of the script program (K3).
-use mathlib.Core.Bool.{Bool, true, _&&_}
+-- and likewise T1 to T4, of the lookup table (K2), S1 to S3, of the script program (K3), and E1 to E3, of entries in passing (K4).
+use mathlib.Core.Bool.{Bool, true, false, _&&_}
 use mathlib.Core.List.{List, [], _∷_}
 use Prim.Native.Nat.{ℕ, _+_, _-_, _*_}
 use lib.Dec.{T, eqb}
-use lib.ListN.{length, getD, replicate}
+use lib.ListN.{length, getD, set, replicate}
 use Rattle.bits.specs.Word.{ones}
 use Rattle.geometry.specs.Geometry.{shape, filled, d, k, g, imageLength}
-use Rattle.geometry.specs.Places.{entryWord}
+use Rattle.geometry.specs.Places.{place, mapWord, entryWord}
 use Rattle.image.specs.declared.Slot.{Slot}
-use Rattle.image.specs.declared.Slot.the-variants.{Free, Live, Dead, Faulty}
+use Rattle.image.specs.declared.Slot.the-variants.{Free, Live, Dead, Faulty, Superseded}
 use Rattle.image.specs.Words.{entry, freeMap}
-use Rattle.image.specs.Slots.{slotOf}
+use Rattle.image.specs.Slots.{slotOf, slot}
 use Rattle.tables.specs.Tables.{Table, rightTable}
-use Rattle.answers.specs.Answers.{numberOf}
-use Rattle.calls.specs.Refusals.{formatAnswer}
+use Rattle.answers.specs.Answers.{numberOf, blockOf, ruleOf}
+use Rattle.calls.specs.Refusals.{formatAnswer, checkAnswer}
 use Rattle.calls.specs.Calls.{fresh, writeOutcome, written, released}
 use Rattle.tabled.specs.Calls.{writeOutcomeWith, writeTable, releaseTable}
 use Rattle.promises.specs.Runs.{Call, Write, ran, started}
@@ -38,12 +38,13 @@ allMatch (f ∷ fs) = eqb (f .gives) (f .prints) && allMatch fs
 abbrev pub answered : ℕ → ℕ → ℕ → ℕ
 answered b s l = numberOf (formatAnswer (shape b s l) (replicate (imageLength (shape b s l)) ones))
 
--- what an entry is: free 0, dead 1, a fault 2, and live for n 3 + n
+-- what a slot is: free 0, dead 1, a fault 2, superseded 3, and live for n 4 + n
 abbrev pub kind : Slot → ℕ
 kind Free = 0
 kind Dead = 1
 kind Faulty = 2
-kind (Live n) = 3 + n
+kind Superseded = 3
+kind (Live n) = 4 + n
 
 -- sector 0 written again and again
 abbrev pub fourWrites : List Call
@@ -80,11 +81,11 @@ figures =
     ∷ answered 64 64 3968 is 0
     ∷ k (shape 64 64 3968) is 2
     ∷ answered 64 64 3969 is 1
-    -- P5: with L 90 an entry live for 89, a fault, and two that are dead
-    ∷ kind (slotOf 90 0xC0000059) is (3 + 89)
-    ∷ kind (slotOf 90 0xC000005A) is 2
-    ∷ kind (slotOf 90 0xE0000005) is 1
-    ∷ kind (slotOf 90 0x40000005) is 1
+    -- P5: with L 90 an entry live for 89, a fault, and two that are dead; the map bit of an entry in use is clear
+    ∷ kind (slotOf 90 false 0xC0000059) is (4 + 89)
+    ∷ kind (slotOf 90 false 0xC000005A) is 2
+    ∷ kind (slotOf 90 false 0xE0000005) is 1
+    ∷ kind (slotOf 90 false 0x40000005) is 1
     -- P6: the first write of 5 on a fresh (3,5,7)
     ∷ d three is 4
     ∷ g three is 1
@@ -195,3 +196,30 @@ scriptFigures =
 -- S1 to S3
 abbrev pub S1-to-S3 : Type 0
 S1-to-S3 = T (allMatch scriptFigures)
+
+abbrev pub passingFigures : List Figure
+passingFigures =
+    let three = shape 3 5 7 in
+    let first = written three (fresh three) 5 (filled 1) in
+    -- P6 with the entry of 5 in passing; and then with a complete one beside it, in slot 1
+    let passing = set first (place three 0 (entryWord three 0)) 0x80000005 in
+    let both = set (set passing (place three 0 (mapWord 1)) 0xFFFFFFFC) (place three 0 (entryWord three 1)) 0xC0000005 in
+    -- E1: with L 90 an entry in passing live for 89, one of number L, and a free entry with its map bit set and clear
+    kind (slotOf 90 false 0x80000059) is (4 + 89)
+    ∷ kind (slotOf 90 false 0x8000005A) is 1
+    ∷ kind (slotOf 90 true 0xFFFFFFFF) is 0
+    ∷ kind (slotOf 90 false 0xFFFFFFFF) is 1
+    -- E2: the number in passing is live; a write of it, and a release, are accepted
+    ∷ kind (slot three passing 0 0) is (4 + 5)
+    ∷ writeOutcome three passing 5 (filled 2) .words is 133
+    ∷ entry three (released three passing 5) 0 0 is 0x00000005
+    -- E3: beside a complete one it is superseded, which rule 8 names
+    ∷ kind (slot three both 0 0) is 3
+    ∷ kind (slot three both 0 1) is (4 + 5)
+    ∷ blockOf (checkAnswer three both) is 0
+    ∷ ruleOf (checkAnswer three both) is 8
+    ∷ []
+
+-- E1 to E3
+abbrev pub E1-to-E3 : Type 0
+E1-to-E3 = T (allMatch passingFigures)

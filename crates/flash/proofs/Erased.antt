@@ -1,8 +1,8 @@
 -- The erasing of a block: what every reading of the image is afterwards, and that the image stays sound where the block had no
 -- live slot. Assumes nothing.
-use mathlib.Core.Path.{_≡_, refl, sym, ap, _∙_}
+use mathlib.Core.Path.{_≡_, refl, sym, ap, ap₂, _∙_}
 use mathlib.Core.Logic.{_≢_, dite}
-use mathlib.Core.Bool.{true, not}
+use mathlib.Core.Bool.{true, not, true≢false}
 use mathlib.Core.List.{List, [], _∷_, _++_}
 use Prim.Native.Nat.{ℕ, _+_, _-_, _*_, _/_, _%_, _^_, _<_, _≤_}
 use native.Mathlib.Nat.{mul-le-mul-right}
@@ -10,20 +10,21 @@ use native.Mathlib.Decide.{decLt, ℕ-discrete}
 use native.Mathlib.Omega.{arith}
 use lib.ListN.{length, getD, take, drop, replicate, length-append, length-take, length-drop, length-replicate, getD-replicate, List·getD-append}
 use lib.Seq.{getD-take, getD-drop, getD-append-add, length-take-le}
-use Rattle.ranges.proofs.Tests.{any-ext}
+use Rattle.ranges.proofs.Tests.{any-of, any-ext}
 use Rattle.bits.specs.Word.{ones, isSet, programmed}
 use Rattle.bits.proofs.Bit.{set-bit, ones-bit}
 use Rattle.bits.proofs.Programming.{ones-leave}
 use Rattle.geometry.specs.declared.Geometry.{Geometry}
 use Rattle.geometry.specs.Geometry.{Limits, d, k, blockLength, sectorWords}
 use Rattle.geometry.specs.Places.{place, eraseWord, leastWord, greatestWord, mapWord, entryWord, contentWord}
-use Rattle.geometry.proofs.Laws.{place-block, low-in-block, map-in-block, entry-in-block, map-covers, content-word-inside, content-word-after}
+use Rattle.geometry.proofs.Laws.{d-positive, place-block, low-in-block, map-in-block, entry-in-block, map-covers, content-word-inside, content-word-after}
 use Rattle.image.specs.declared.Slot.the-variants.{Free, Live}
 use Rattle.image.specs.Words.{Image, Shaped, Words32, word, eraseCount, leastMapped, greatestMapped, freeMap, mapBit, entry, contents}
-use Rattle.image.specs.Slots.{slotOf, slot, isFree, isFaulty, find, mapOf}
+use Rattle.image.specs.Slots.{slotOf, ownSlot, slot, isFree, isFaulty, find, mapOf}
 use Rattle.image.specs.Blocks.{full}
-use Rattle.image.specs.WellFormed.{ceiling}
+use Rattle.image.specs.WellFormed.{ceiling, NoneSuperseded}
 use Rattle.image.proofs.Entries.{free-slot}
+use Rattle.image.proofs.Own.{none-superseded, each-own}
 use Rattle.image.proofs.Reading.{block-room, word-inside}
 use Rattle.image.proofs.Facts.{Sound}
 use Rattle.image.proofs.Finding.{find-same, map-same}
@@ -31,7 +32,7 @@ use Rattle.image.proofs.Places.{apart, contents-at, contents-are, contents-long
 use Rattle.flash.specs.Steps.{Step, Program, Erase, erasedBlock, applied, run, leavesAsked}
 use Rattle.flash.proofs.Stores.{Exact, lastAsked, counts-erasures, count-one, last-here, last-other, exact-one, run-words}
 use Rattle.flash.proofs.Filling.{Ready}
-use Rattle.flash.proofs.Kept.{free-not-live}
+use Rattle.flash.proofs.Changed.{free-not-live}
 
 module _ (geo : Geometry) (image : Image) (v : ℕ) where
   abbrev before : List ℕ
@@ -198,21 +199,6 @@ module _ (geo : Geometry) (image : Image) (ready : Ready geo image) (v w : ℕ) 
   unfolding eraseCount
   wiped-count-other c n = wiped-outside c eraseWord n (low-in-block geo within (omega arith))
 
-  pub wiped-free : (j : ℕ) → j < d geo → slot geo wiped v j ≡ Free
-  unfolding slot entry
-  wiped-free j l =
-      ap (slotOf (geo .logical)) (wiped-inside (entryWord geo j) (entry-in-block geo within l) (λ e. omega arith))
-      ∙ free-slot (geo .logical) ones (omega arith) refl
-
-  pub wiped-slot : (c j : ℕ) → c ≢ v → j < d geo → slot geo wiped c j ≡ slot geo image c j
-  unfolding slot entry
-  wiped-slot c j n l = ap (slotOf (geo .logical)) (wiped-outside c (entryWord geo j) n (entry-in-block geo within l))
-
-  pub wiped-contents : (c j : ℕ) → c < geo .blocks → c ≢ v → j < d geo → contents geo wiped c j ≡ contents geo image c j
-  wiped-contents c j l n h =
-      contents-are geo wiped c j (contents geo image c j) wiped-shaped l h (contents-long geo image (ready .shaped) l h)
-      (λ m q. wiped-outside c (contentWord geo j m) n (content-word-inside geo within h q) ∙ sym (contents-at geo image c j m q))
-
   map-of-v : (j : ℕ) → j < 32 * k geo → mapBit geo wiped v j ≡ true
   unfolding freeMap
   map-of-v j l =
@@ -223,9 +209,46 @@ module _ (geo : Geometry) (image : Image) (ready : Ready geo image) (v w : ℕ) 
   unfolding freeMap
   map-of-other c j n l = ap (λ (x : ℕ). isSet x (j % 32)) (wiped-outside c (mapWord j) n (map-in-block geo within {i = j} l))
 
-  full-of-other : (c : ℕ) → c ≢ v → full geo wiped c ≡ full geo image c
+  -- by their own entries and map bits the slots of the block are free, and all others as they were
+  own-free : (j : ℕ) → j < d geo → ownSlot geo wiped v j ≡ Free
+  unfolding ownSlot entry
+  own-free j l =
+      free-slot (geo .logical) (mapBit geo wiped v j) (entry geo wiped v j) (wiped-inside (entryWord geo j) (entry-in-block geo within l) (λ e. omega arith))
+      ∙ rw (map-of-v j (omega (arith, map-covers geo within)))
+
+  own-of-other : (c j : ℕ) → c < geo .blocks → c ≢ v → j < d geo → ownSlot geo wiped c j ≡ slot geo image c j
+  unfolding ownSlot entry
+  own-of-other c j l n h =
+      ap₂ (slotOf (geo .logical))
+      (map-of-other c j n (omega (arith, map-covers geo within)))
+      (wiped-outside c (entryWord geo j) n (entry-in-block geo within h))
+      ∙ sym (each-own (ready .sound .current) l h)
+
+  own-was : (c j n : ℕ) → c < geo .blocks → j < d geo → ownSlot geo wiped c j ≡ Live n → slot geo image c j ≡ Live n
+  own-was c j n l h e =
+      let other : c ≢ v = λ p. free-not-live (ap (λ (x : ℕ). ownSlot geo wiped x j) p ∙ own-free j h) e in
+      sym (own-of-other c j l other h) ∙ e
+
+  -- so no slot is superseded
+  current : NoneSuperseded geo wiped
+  current =
+      none-superseded geo wiped
+      (λ n c c' j j' l l' h h' e e'. ready .sound .once n c c' j j' l l' h h' (own-was c j n l h e) (own-was c' j' n l' h' e'))
+
+  pub wiped-free : (j : ℕ) → j < d geo → slot geo wiped v j ≡ Free
+  wiped-free j l = each-own current block l ∙ own-free j l
+
+  pub wiped-slot : (c j : ℕ) → c < geo .blocks → c ≢ v → j < d geo → slot geo wiped c j ≡ slot geo image c j
+  wiped-slot c j l n h = each-own current l h ∙ own-of-other c j l n h
+
+  pub wiped-contents : (c j : ℕ) → c < geo .blocks → c ≢ v → j < d geo → contents geo wiped c j ≡ contents geo image c j
+  wiped-contents c j l n h =
+      contents-are geo wiped c j (contents geo image c j) wiped-shaped l h (contents-long geo image (ready .shaped) l h)
+      (λ m q. wiped-outside c (contentWord geo j m) n (content-word-inside geo within h q) ∙ sym (contents-at geo image c j m q))
+
+  full-of-other : (c : ℕ) → c < geo .blocks → c ≢ v → full geo wiped c ≡ full geo image c
   unfolding full
-  full-of-other c n = ap not (any-ext (d geo) (λ j l. ap isFree (wiped-slot c j n l)))
+  full-of-other c l n = ap not (any-ext (d geo) (λ j h. ap isFree (wiped-slot c j l n h)))
 
   bounds-of-v : (leastMapped geo wiped v ≡ ones) × (greatestMapped geo wiped v ≡ ones)
   unfolding leastMapped greatestMapped
@@ -245,15 +268,21 @@ module _ (geo : Geometry) (image : Image) (ready : Ready geo image) (v w : ℕ) 
 
   module _ (none-live : (j n : ℕ) → j < d geo → slot geo image v j ≡ Live n → ⊥) where
     -- a live slot is in another block, and was live before
-    live-was : {c j n : ℕ} → j < d geo → slot geo wiped c j ≡ Live n → (c ≢ v) × (slot geo image c j ≡ Live n)
-    live-was {c} {j} {n} l e =
-        let other : c ≢ v = λ p. free-not-live (ap (λ (x : ℕ). slot geo wiped x j) p ∙ wiped-free j l) e in
-        (other, sym (wiped-slot c j other l) ∙ e)
+    live-was : (c j n : ℕ) → c < geo .blocks → j < d geo → slot geo wiped c j ≡ Live n → (c ≢ v) × (slot geo image c j ≡ Live n)
+    live-was c j n l h e =
+        let other : c ≢ v = λ p. free-not-live (ap (λ (x : ℕ). slot geo wiped x j) p ∙ wiped-free j h) e in
+        (other, sym (wiped-slot c j l other h) ∙ e)
 
     clean-v : (j m : ℕ) → j < d geo → m < sectorWords → getD (contents geo wiped v j) m 0 ≡ ones
     clean-v j m l h =
         contents-at geo wiped v j m h
         ∙ wiped-inside (contentWord geo j m) (content-word-inside geo within l h) (λ e. omega (arith, content-word-after geo within j m))
+
+    never-full : full geo wiped v ≡ true → ⊥
+    unfolding full
+    never-full f =
+        let first = d-positive geo within in
+        true≢false (sym f ∙ ap not (any-of (d geo) (λ j. isFree (slot geo wiped v j)) first (ap isFree (wiped-free 0 first))))
 
     pub wiped-sound : Sound geo wiped
     wiped-sound =
@@ -267,7 +296,7 @@ module _ (geo : Geometry) (image : Image) (ready : Ready geo image) (v w : ℕ) 
               let covered : j < 32 * k geo = omega (arith, map-covers geo within) in
               dite (ℕ-discrete c v)
               (λ p. rw p (map-of-v j covered ∙ sym (ap isFree (wiped-free j h))))
-              (λ n. map-of-other c j n covered ∙ s .map c j l h ∙ sym (ap isFree (wiped-slot c j n h)));
+              (λ n. map-of-other c j n covered ∙ s .map c j l h ∙ sym (ap isFree (wiped-slot c j l n h)));
           rest = λ c j l h m.
               dite (ℕ-discrete c v) (λ p. rw p (map-of-v j m)) (λ n. map-of-other c j n m ∙ s .rest c j l h m);
           clean = λ c j l h e m q.
@@ -275,24 +304,32 @@ module _ (geo : Geometry) (image : Image) (ready : Ready geo image) (v w : ℕ) 
               (λ p. rw p (clean-v j m h q))
               (λ n.
               ap (λ (x : List ℕ). getD x m 0) (wiped-contents c j l n h)
-              ∙ s .clean c j l h (sym (wiped-slot c j n h) ∙ e) m q);
+              ∙ s .clean c j l h (sym (wiped-slot c j l n h) ∙ e) m q);
           proper = λ c j l h.
               dite (ℕ-discrete c v)
               (λ p. rw p (ap isFaulty (wiped-free j h)))
-              (λ n. ap isFaulty (wiped-slot c j n h) ∙ s .proper c j l h);
-          once = λ n c c' j j' l l' h h' e e'. s .once n c c' j j' l l' h h' (live-was h e .1) (live-was h' e' .1);
+              (λ n. ap isFaulty (wiped-slot c j l n h) ∙ s .proper c j l h);
+          once = λ n c c' j j' l l' h h' e e'. s .once n c c' j j' l l' h h' (live-was c j n l h e .1) (live-was c' j' n l' h' e' .1);
           unbounded = λ c l f.
               dite (ℕ-discrete c v)
               (λ p. rw p bounds-of-v)
               (λ n.
               let same = bounds-of-other c n in
-              let were = s .unbounded c l (sym (full-of-other c n) ∙ f) in
+              let were = s .unbounded c l (sym (full-of-other c l n) ∙ f) in
               (same .0 ∙ were .0, same .1 ∙ were .1));
           bounded = λ c j m l h f e.
-              let was = live-was h e in
+              let was = live-was c j m l h e in
               let same = bounds-of-other c (was .0) in
-              let were = s .bounded c j m l h (sym (full-of-other c (was .0)) ∙ f) (was .1) in
+              let were = s .bounded c j m l h (sym (full-of-other c l (was .0)) ∙ f) (was .1) in
               (rw (same .0) (were .0), rw (same .1) (were .1));
+          closed = λ c l f.
+              dite (ℕ-discrete c v)
+              (λ p. absurd (never-full (ap (full geo wiped) (sym p) ∙ f)))
+              (λ n.
+              let same = bounds-of-other c n in
+              let were = s .closed c l (sym (full-of-other c l n) ∙ f) in
+              (λ e. were .0 (sym (same .0) ∙ e), λ e. were .1 (sym (same .1) ∙ e)));
+          current = current;
         }
 
     -- a slot that was live is in another block too
@@ -303,8 +340,8 @@ module _ (geo : Geometry) (image : Image) (ready : Ready geo image) (v w : ℕ) 
     pub wiped-found : (n : ℕ) → find geo wiped n ≡ find geo image n
     wiped-found n =
         find-same geo image wiped n wiped-sound
-        (λ c j l h e. wiped-slot c j (in-another h e) h ∙ e)
-        (λ c j l h e. live-was h e .1)
+        (λ c j l h e. wiped-slot c j l (in-another h e) h ∙ e)
+        (λ c j l h e. live-was c j n l h e .1)
 
     pub wiped-map : (n : ℕ) → mapOf geo wiped n ≡ mapOf geo image n
     wiped-map n = map-same geo image wiped n (wiped-found n) (λ c j l h e. wiped-contents c j l (in-another h e) h)

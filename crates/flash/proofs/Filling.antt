@@ -5,6 +5,8 @@ use mathlib.Core.List.{List, _++_}
 use Prim.Native.Nat.{ℕ, _+_, _/_, _%_, _^_, _<_}
 use native.Mathlib.Omega.{arith}
 use lib.ListN.{length, getD}
+use borrow.Author.Tests.{eqb-true}
+use Rattle.ranges.proofs.Tests.{both-pass}
 use Rattle.bits.specs.Word.{ones, bit, cleared, programmed}
 use Rattle.bits.proofs.Clearing.{cleared-set, cleared-le}
 use Rattle.bits.proofs.Programming.{clearing-leaves, ones-leave}
@@ -16,8 +18,8 @@ use Rattle.image.specs.declared.Slot.the-variants.{Free, Live}
 use Rattle.image.specs.declared.Found.{Found}
 use Rattle.image.specs.declared.Found.the-variants.{At, Nothing}
 use Rattle.image.specs.Words.{Image, Shaped, Words32, word, freeMap, entry, contents}
-use Rattle.image.specs.Slots.{validBit, currentBit, slot, find}
-use Rattle.image.proofs.Entries.{free-entry}
+use Rattle.image.specs.Slots.{validBit, currentBit, slot, isFree, find}
+use Rattle.image.proofs.Own.{free-read}
 use Rattle.image.proofs.Reading.{word-inside, entry-inside, map-inside}
 use Rattle.image.proofs.Facts.{Sound}
 use Rattle.image.proofs.Finding.{LiveAt, found-live}
@@ -128,8 +130,8 @@ module _ (geo : Geometry) (image : Image) (n : ℕ) (ws : List ℕ) (b i : ℕ) 
   -- ---- the words that stood there
 
   entry-free : word image entry-place ≡ ones
-  unfolding slot entry
-  entry-free = free-entry (geo .logical) (word image entry-place) (target .free)
+  unfolding entry
+  entry-free = eqb-true (entry geo image b i) ones (both-pass _ _ (sym (free-read geo image b i) ∙ ap isFree (target .free)) .0)
 
   content-free : (j : ℕ) → j < sectorWords → word image (content-place j) ≡ ones
   content-free j l =

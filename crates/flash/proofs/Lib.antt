@@ -1,5 +1,6 @@
 pub mod Stores
 pub mod Filling
+pub mod Changed
 pub mod Placed
 pub mod Kept
 pub mod Counts

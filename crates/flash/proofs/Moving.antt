@@ -13,26 +13,28 @@ use Rattle.ranges.proofs.Sums.{sum-prefix}
 use Rattle.geometry.specs.declared.Geometry.{Geometry}
 use Rattle.geometry.specs.Geometry.{d}
 use Rattle.image.specs.declared.Slot.{Slot}
-use Rattle.image.specs.declared.Slot.the-variants.{Free, Live, Dead, Faulty}
+use Rattle.image.specs.declared.Slot.the-variants.{Free, Live, Dead, Faulty, Superseded}
 use Rattle.image.specs.declared.Found.{Found}
 use Rattle.image.specs.declared.Found.the-variants.{At}
 use Rattle.image.specs.Words.{Image, Words32, eraseCount, contents}
 use Rattle.image.specs.Slots.{slot, isFree, isLive, find, mapOf, isAt}
 use Rattle.image.specs.Blocks.{full}
-use Rattle.image.proofs.Facts.{Sound, live-word}
+use Rattle.image.proofs.Own.{live-number}
+use Rattle.image.proofs.Facts.{Sound, facts-sound}
 use Rattle.image.proofs.Finding.{live-found, map-at}
 use Rattle.image.proofs.Places.{contents-long, contents-words}
 use Rattle.tables.specs.Tables.{Table, rightTable, noted, slotNoted}
 use Rattle.flash.specs.Steps.{Step, run, wordsIn, erasuresIn, leavesAsked}
 use Rattle.flash.specs.Placing.{placing}
-use Rattle.flash.specs.Writing.{Copied, copiedSlot, copying, FoundInPlace}
+use Rattle.flash.specs.Writing.{Copied, copiedSlot, copying, EachInTurn}
 use Rattle.flash.specs.Tables.{tableCopied}
 use Rattle.flash.proofs.Stores.{run-append, asked-append, words-append, erasures-append}
 use Rattle.flash.proofs.Counts.{placing-erasures}
 use Rattle.flash.proofs.Unused.{SparesUnused, spares-none, spares-append, placing-spares}
 use Rattle.flash.proofs.Filling.{Ready, Target}
 use Rattle.flash.proofs.Placed.{Placed, Bounds, placing-exact, placing-placed, placing-bounds, placing-cost, placing-shaped, placing-words32}
-use Rattle.flash.proofs.Kept.{not-live, other-place, free-as-before, live-before, only-here, placed-sound, placed-right, placed-here, placed-other}
+use Rattle.flash.proofs.Changed.{not-live, other-place}
+use Rattle.flash.proofs.Kept.{free-as-before, live-before, only-here, placed-sound, placed-right, placed-here, placed-other}
 
 module _
     (geo : Geometry) (image : Image) (v t : ℕ)
@@ -131,7 +133,7 @@ module _
       room = omega (arith, h .taken, was-live, sum-prefix {m = suc m} (λ i. one-if (lives i)) l)
 
       number : n < geo .logical
-      number = live-word geo now v m (h .ready .words) live .1
+      number = live-number geo now v m live
 
       target : Target geo now n ws t (st .taken)
       target =
@@ -162,7 +164,7 @@ module _
       sound-after : Sound geo after
       sound-after =
           placed-sound geo now after n ws t (st .taken) (h .ready) target p
-          bounds words-after
+          bounds
 
       ready-after : Ready geo after
       ready-after =
@@ -170,7 +172,7 @@ module _
 
       free-after : (j : ℕ) → st .taken + 1 ≤ j → j < d geo → slot geo after t j ≡ Free
       free-after j q r =
-          p .other t j target-in r (λ x y. omega arith) (not-here (λ x y. apart (sym x)))
+          p .changed .other t j target-in r (λ x y. omega arith) (not-here (λ x y. apart (sym x)))
           ∙ h .left-free j (omega arith) r
 
       not-full : full geo after t ≡ false
@@ -190,16 +192,16 @@ module _
           go (yes e) =
               rw e
               (placed-here geo now after n ws t (st .taken) (h .ready) target p
-              bounds words-after
+              bounds
               ∙ sym (map-at geo now n v m here))
           go (no e) =
               placed-other geo now after n ws t (st .taken) (h .ready) target p
-              bounds words-after x e
+              bounds x e
 
       passed-after : (j x : ℕ) → j < suc m → j < d geo → slot geo after v j ≡ Live x → ⊥
       passed-after j x q r e =
           ⊎-elim
-          (λ s. not-live (ap isLive (ap (slot geo after v) s ∙ p .old-dead v m here)) e)
+          (λ s. not-live (ap isLive (ap (slot geo after v) s ∙ p .changed .old-dead v m here)) e)
           (λ s. go s (ℕ-discrete x n))
           (below-suc q)
         where
@@ -216,7 +218,7 @@ module _
       used-after : (j : ℕ) → j < suc (st .taken) → isFree (slot geo after t j) ≡ false
       used-after j q =
           ⊎-elim
-          (λ s. ap (λ (x : ℕ). isFree (slot geo after t x)) s ∙ ap isFree (p .here))
+          (λ s. ap (λ (x : ℕ). isFree (slot geo after t x)) s ∙ ap isFree (p .changed .here))
           (λ s.
           free-as-before geo now after n ws t (st .taken) (h .ready) target p
           t j target-in (omega (arith, room)) (λ x y. omega arith)
@@ -245,14 +247,14 @@ module _
             taken = omega (arith, h .taken, was-live);
             counts = λ c q. rw same-image (p .counts c q ∙ h .counts c q);
             later = λ j q r.
-                rw same-image (p .other v j victim-in r (λ x y. apart x) (not-here (λ x y. omega arith)) ∙ h .later j (omega arith) r);
+                rw same-image (p .changed .other v j victim-in r (λ x y. apart x) (not-here (λ x y. omega arith)) ∙ h .later j (omega arith) r);
             passed = λ j x q r e. passed-after j x q r (rw same-image at e);
             left-free = λ j q r. rw same-image (free-after j (omega arith) r);
             used = λ j q. rw same-image (used-after j q);
             others = λ c j q x y r.
-                rw same-image (p .other c j q r (λ z w. y z) (not-here (λ z w. x z)) ∙ h .others c j q x y r);
+                rw same-image (p .changed .other c j q r (λ z w. y z) (not-here (λ z w. x z)) ∙ h .others c j q x y r);
             map = λ x. rw same-image (map-after x ∙ h .map x);
-            right = rw (same-image, h .right) (placed-right geo now after n ws t (st .taken) (h .ready) target p bounds words-after);
+            right = rw (same-image, h .right) (placed-right geo now after n ws t (st .taken) (h .ready) target p bounds);
           }
 
     -- one slot more
@@ -273,6 +275,7 @@ module _
         go (Live n) e = copied m st n l h e
         go Dead e = passed-by m st l h (ap isLive e)
         go Faulty e = passed-by m st l h (ap isLive e)
+        go Superseded e = passed-by m st l h (ap isLive e)
 
     -- all the slots
     pub moved : (m : ℕ) → m ≤ d geo → Moved m (copying geo image v t m) (tableCopied geo image v t (rightTable geo image) m)
@@ -280,6 +283,10 @@ module _
     moved zero l = nothing-yet
     moved (suc m) l = moved-on m (copying geo image v t m) l (moved m (omega arith))
 
-    pub found-in-place : FoundInPlace geo image v t
-    found-in-place =
-        record { at-its-turn = λ m n l e. here m (copying geo image v t m) n l (moved m (omega arith)) e }
+    pub each-in-turn : EachInTurn geo image v t
+    each-in-turn =
+        record {
+          sound-then = λ m l. facts-sound geo _ (moved m (omega arith) .ready .sound);
+          found-there = λ m n l e. here m (copying geo image v t m) n l (moved m (omega arith)) e;
+          room-there = λ m n l e. target m (copying geo image v t m) n l (moved m (omega arith)) e .free;
+        }

@@ -23,17 +23,19 @@ use Rattle.image.specs.declared.Slot.the-variants.{Live, Dead}
 use Rattle.image.specs.declared.Found.{Found}
 use Rattle.image.specs.declared.Found.the-variants.{At}
 use Rattle.image.specs.Words.{Image, Shaped, Words32, word, eraseCount, leastMapped, greatestMapped, freeMap, mapBit, entry, contents}
-use Rattle.image.specs.Slots.{validBit, currentBit, slot, slotOf, isFree, isLiveFor, liveIn, find, isAt}
+use Rattle.image.specs.Slots.{validBit, currentBit, slot, ownSlot, slotOf, isFree, isLiveFor, liveIn, find, isAt}
 use Rattle.image.specs.Blocks.{full}
-use Rattle.image.proofs.Entries.{live-slot, dead-slot, retired-entry}
+use Rattle.image.specs.WellFormed.{NoneSuperseded}
+use Rattle.image.proofs.Entries.{complete-for, invalid-dead}
+use Rattle.image.proofs.Own.{none-superseded, each-own}
 use Rattle.image.proofs.Reading.{word-inside}
-use Rattle.image.proofs.Facts.{live-word}
 use Rattle.image.proofs.Finding.{LiveAt, found-live}
 use Rattle.image.proofs.Places.{apart, contents-at, contents-are, contents-long}
 use Rattle.flash.specs.Steps.{Step, Program, run, wordsIn}
 use Rattle.flash.specs.Placing.{leastLive, greatestLive, closesBlock, fillsSlot, placing}
 use Rattle.flash.proofs.Stores.{Exact, lastAsked, run-append, run-none, last-append, last-here, last-other, last-nothing, exact-none, exact-one, exact-then, run-words}
 use Rattle.flash.proofs.Counts.{placing-words, placing-erasures}
+use Rattle.flash.proofs.Changed.{Changed, once-kept}
 use Rattle.flash.proofs.Filling.{Ready, Target, Elsewhere, fills-exact, filled-map, filled-entry, filled-content, filled-old, filled-elsewhere}
 
 -- What a placing leaves, by slots: n in slot i of block b, with the contents ws; its old slot dead; all else as it was. (Words 1 and 2
@@ -43,10 +45,8 @@ pub record Placed (geo : Geometry) (image after : Image) (n : ℕ) (ws : List �
   pub counts : (c : ℕ) → c < geo .blocks → eraseCount geo after c ≡ eraseCount geo image c
   pub map-here : mapBit geo after b i ≡ false
   pub map-other : (c j : ℕ) → c < geo .blocks → j < 32 * k geo → (c ≡ b → j ≡ i → ⊥) → mapBit geo after c j ≡ mapBit geo image c j
-  pub here : slot geo after b i ≡ Live n
-  pub old-dead : (c j : ℕ) → find geo image n ≡ At c j → slot geo after c j ≡ Dead
-  pub other :
-      (c j : ℕ) → c < geo .blocks → j < d geo → (c ≡ b → j ≡ i → ⊥) → (find geo image n ≡ At c j → ⊥) → slot geo after c j ≡ slot geo image c j
+  pub current : NoneSuperseded geo after
+  pub changed : Changed geo image (slot geo after) n b i
   pub contents-here : contents geo after b i ≡ ws
   pub contents-other : (c j : ℕ) → c < geo .blocks → j < d geo → (c ≡ b → j ≡ i → ⊥) → contents geo after c j ≡ contents geo image c j
 
@@ -177,30 +177,43 @@ module _ (geo : Geometry) (image : Image) (n : ℕ) (ws : List ℕ) (b i : ℕ) 
         ap (λ (w : ℕ). isSet w (i % 32)) (map-word-same i refl)
         ∙ clear-bit _ (i % 32) (cleared-here (freeMap geo image b i) (i % 32))
 
+    -- by their own entries and map bits: n complete in the slot that was taken, the old entry not valid any more, all others as they were
+    own-here : ownSlot geo after b i ≡ Live n
+    unfolding ownSlot entry
+    own-here =
+        ap (slotOf (geo .logical) (mapBit geo after b i)) (left .entry-word)
+        ∙ complete-for (geo .logical) (mapBit geo after b i) n (target .number) (omega (arith, logical-small geo within))
+
+    own-old : (c j : ℕ) → old ≡ At c j → ownSlot geo after c j ≡ Dead
+    unfolding ownSlot entry
+    own-old c j e =
+        ap (slotOf (geo .logical) (mapBit geo after c j)) (left .old-entry e)
+        ∙ invalid-dead (geo .logical) (mapBit geo after c j) (cleared (cleared (entry geo image c j) currentBit) validBit)
+        (clear-bit _ validBit (cleared-here (cleared (entry geo image c j) currentBit) validBit))
+
+    own-other : (c j : ℕ) → c < geo .blocks → j < d geo → (c ≡ b → j ≡ i → ⊥) → (old ≡ At c j → ⊥) → ownSlot geo after c j ≡ slot geo image c j
+    unfolding ownSlot entry
+    own-other c j l h n' o =
+        ap₂ (slotOf (geo .logical))
+        (map-other c j l (slot-in-map h) n')
+        (left .elsewhere (entry-away c j h n' o) (not-bound c (entry-in-block geo within h) (omega arith)))
+        ∙ sym (each-own (ready .sound .current) l h)
+
+    own-changed : Changed geo image (ownSlot geo after) n b i
+    own-changed = record { here = own-here; old-dead = own-old; other = own-other }
+
+    -- so no slot is superseded, and each is what its own entry and map bit say
+    current : NoneSuperseded geo after
+    current = none-superseded geo after (once-kept geo image (ownSlot geo after) n b i (ready .sound) own-changed)
+
     here : slot geo after b i ≡ Live n
-    unfolding slot entry
-    here =
-        let low : (0xC0000000 + n) % 2 ^ 29 ≡ n = omega (arith, logical-small geo within, target .number) in
-        ap (slotOf (geo .logical)) (left .entry-word)
-        ∙ live-slot (geo .logical) (0xC0000000 + n) (omega (arith, logical-small geo within, target .number))
-        (omega (arith, logical-small geo within, target .number)) (omega (arith, target .number))
-        ∙ ap Live low
+    here = each-own current (target .block) (target .slot-of) ∙ own-here
 
     old-dead : (c j : ℕ) → old ≡ At c j → slot geo after c j ≡ Dead
-    unfolding slot entry
-    old-dead c j e =
-        let was = live-word geo image c j (ready .words) (old-live e .live) in
-        ap (slotOf (geo .logical))
-        (left .old-entry e ∙ ap (λ (w : ℕ). cleared (cleared w currentBit) validBit) (was .0)
-        ∙ retired-entry n (omega (arith, logical-small geo within, target .number)))
-        ∙ dead-slot (geo .logical) n (omega (arith, logical-small geo within, target .number))
-        (λ q. omega (arith, logical-small geo within, target .number)) (λ q. omega (arith, logical-small geo within, target .number))
+    old-dead c j e = each-own current (old-live e .block) (old-live e .slot-of) ∙ own-old c j e
 
     other : (c j : ℕ) → c < geo .blocks → j < d geo → (c ≡ b → j ≡ i → ⊥) → (old ≡ At c j → ⊥) → slot geo after c j ≡ slot geo image c j
-    unfolding slot entry
-    other c j l h n' o =
-        ap (slotOf (geo .logical))
-        (left .elsewhere (entry-away c j h n' o) (not-bound c (entry-in-block geo within h) (omega arith)))
+    other c j l h n' o = each-own current l h ∙ own-other c j l h n' o
 
     contents-here : contents geo after b i ≡ ws
     contents-here = contents-are geo after b i ws shaped-after (target .block) (target .slot-of) (target .long) (left .content)
@@ -220,9 +233,8 @@ module _ (geo : Geometry) (image : Image) (n : ℕ) (ws : List ℕ) (b i : ℕ) 
           counts = counts;
           map-here = map-here;
           map-other = map-other;
-          here = here;
-          old-dead = old-dead;
-          other = other;
+          current = current;
+          changed = record { here = here; old-dead = old-dead; other = other };
           contents-here = contents-here;
           contents-other = contents-other;
         }
@@ -368,18 +380,27 @@ module _ (geo : Geometry) (image : Image) (n : ℕ) (ws : List ℕ) (b i : ℕ) 
 
   -- ---- words 1 and 2
 
-  slot-final : (c j : ℕ) → j < d geo → slot geo final c j ≡ slot geo filled c j
-  unfolding slot entry
-  slot-final c j l =
-      ap (slotOf (geo .logical))
+  -- the image that (g) reads
+  pub filled-placed : Placed geo image filled n ws b i
+  filled-placed = placed filled filled-words
+
+  own-final : (c j : ℕ) → j < d geo → ownSlot geo final c j ≡ ownSlot geo filled c j
+  unfolding ownSlot entry freeMap
+  own-final c j l =
+      ap₂ (λ (w : ℕ). slotOf (geo .logical) (isSet w (j % 32)))
+      (closing-elsewhere (not-bound c (low-in-block geo within (map-in (slot-in-map l))) (omega arith)))
       (closing-elsewhere (not-bound c (entry-in-block geo within l) (omega arith)))
+
+  slot-final : (j : ℕ) → j < d geo → slot geo final b j ≡ slot geo filled b j
+  slot-final j l =
+      each-own (current final final-words) (target .block) l ∙ own-final b j l ∙ sym (each-own (current filled filled-words) (target .block) l)
 
   full-final : full geo final b ≡ full geo filled b
   unfolding full
-  full-final = ap not (any-ext (d geo) (λ j l. ap isFree (slot-final b j l)))
+  full-final = ap not (any-ext (d geo) (λ j l. ap isFree (slot-final j l)))
 
   live-in-final : (m : ℕ) → liveIn geo final b m ≡ liveIn geo filled b m
-  live-in-final m = any-ext (d geo) (λ j l. ap (isLiveFor m) (slot-final b j l))
+  live-in-final m = any-ext (d geo) (λ j l. ap (isLiveFor m) (slot-final j l))
 
   least-final : leastLive geo final b ≡ least-now
   unfolding leastLive

@@ -12,6 +12,7 @@ use Rattle.ranges.proofs.Searches.{best-passes, best-any}
 use Rattle.geometry.specs.declared.Geometry.{Geometry}
 use Rattle.geometry.specs.Geometry.{d}
 use Rattle.image.specs.declared.Found.the-variants.{At}
+use Rattle.image.specs.declared.Slot.the-variants.{Free}
 use Rattle.image.specs.Words.{Image, eraseCount}
 use Rattle.image.specs.Slots.{slot, isFree}
 use Rattle.image.specs.Blocks.{blank, isOpen, lowestFree, lowestOpen, lessWorn, leastWornBlank, victim}
@@ -21,7 +22,8 @@ use Rattle.flash.specs.declared.Plan.the-variants.{Fill, Reclaim, Worn}
 use Rattle.flash.specs.Placing.{placing}
 use Rattle.flash.specs.Writing.{anyOpen, nextSlot, filling, mustReclaim, reclaimingFirst, writing, planned}
 use Rattle.flash.specs.Tables.{tableFilled, tableReclaimedFirst, tableWritten}
-use Rattle.flash.proofs.Chosen.{open-free}
+use Rattle.image.proofs.Facts.{free-is}
+use Rattle.flash.proofs.Chosen.{open-free, blank-slot}
 
 module _ (geo : Geometry) (image : Image) where
   -- a block is open where the lowest open block is one of the blocks
@@ -62,10 +64,20 @@ module _ (geo : Geometry) (image : Image) where
       best-any (λ i r. false) (d geo) (λ j. isFree (slot geo image (lowestOpen geo image) j))
       (open-free geo image (lowestOpen geo image) (best-passes (λ i r. false) (geo .blocks) (isOpen geo image) l))
 
+  pub open-slot-free : lowestOpen geo image < geo .blocks → slot geo image (lowestOpen geo image) (lowestFree geo image (lowestOpen geo image)) ≡ Free
+  unfolding lowestFree
+  open-slot-free l =
+      free-is _ (best-passes (λ i r. false) (d geo) (λ j. isFree (slot geo image (lowestOpen geo image) j)) (open-slot l))
+
   -- the block that rule 2 takes
   pub blank-block : R6 geo image ≡ true → leastWornBlank geo image < geo .blocks
   unfolding R6 leastWornBlank
   blank-block t = best-any (lessWorn geo image) (geo .blocks) (blank geo image) t
+
+  pub blank-slot-free : R6 geo image ≡ true → 0 < d geo → slot geo image (leastWornBlank geo image) 0 ≡ Free
+  unfolding leastWornBlank
+  blank-slot-free t l =
+      blank-slot geo image (leastWornBlank geo image) (best-passes (lessWorn geo image) (geo .blocks) (blank geo image) (blank-block t)) 0 l
 
   -- the slot of the next write, by what the code found
   pub next-open : (b i : ℕ) → b ≡ lowestOpen geo image → i ≡ lowestFree geo image b → b < geo .blocks → nextSlot geo image ≡ At b i

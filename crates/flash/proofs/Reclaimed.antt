@@ -106,11 +106,11 @@ module _
           emptied = λ j l. rw after (wiped-free geo copy (m .ready) v count victim-in fits j l);
           left-free = λ j l h.
               rw after
-              (wiped-slot geo copy (m .ready) v count victim-in fits t j (λ e. apart (sym e)) h ∙ m .left-free j (omega (arith, taken)) h);
+              (wiped-slot geo copy (m .ready) v count victim-in fits t j target-in (λ e. apart (sym e)) h ∙ m .left-free j (omega (arith, taken)) h);
           used = λ j l.
               rw after
-              (ap isFree (wiped-slot geo copy (m .ready) v count victim-in fits t j (λ e. apart (sym e)) (omega (arith, spare))) ∙ m .used j (omega (arith, taken)));
-          others = λ c j l n n' h. rw after (wiped-slot geo copy (m .ready) v count victim-in fits c j n h ∙ m .others c j l n n' h);
+              (ap isFree (wiped-slot geo copy (m .ready) v count victim-in fits t j target-in (λ e. apart (sym e)) (omega (arith, spare))) ∙ m .used j (omega (arith, taken)));
+          others = λ c j l n n' h. rw after (wiped-slot geo copy (m .ready) v count victim-in fits c j l n h ∙ m .others c j l n n' h);
           map = λ n. rw after (wiped-map geo copy (m .ready) v count victim-in fits none-live n ∙ m .map n);
           right =
               m .right

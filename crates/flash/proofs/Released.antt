@@ -4,27 +4,30 @@ use mathlib.Core.Logic.{_≢_}
 use mathlib.Core.Bool.{true, not}
 use mathlib.Core.List.{List}
 use mathlib.Core.Option.{none}
-use Prim.Native.Nat.{ℕ, _+_, _*_, _%_, _^_, _<_}
+use Prim.Native.Nat.{ℕ, _+_, _*_, _%_, _<_}
 use native.Mathlib.Omega.{arith}
 use lib.ListN.{getD}
 use Rattle.ranges.specs.Range.{one-if, sumBelow}
 use Rattle.ranges.proofs.Tests.{any-ext, all-ext}
 use Rattle.ranges.proofs.Sums.{sum-ext}
 use Rattle.bits.specs.Word.{isSet, cleared}
+use Rattle.bits.proofs.Bit.{clear-bit}
+use Rattle.bits.proofs.Clearing.{cleared-here}
 use Rattle.bits.proofs.Programming.{clearing-leaves}
 use Rattle.geometry.specs.declared.Geometry.{Geometry}
 use Rattle.geometry.specs.Geometry.{Limits, d, k, blockLength}
 use Rattle.geometry.specs.Places.{place, eraseWord, leastWord, greatestWord, mapWord, entryWord, contentWord}
-use Rattle.geometry.proofs.Laws.{logical-small, low-in-block, entry-in-block, map-word-inside, map-covers, entry-word-inside, content-word-inside, content-word-after}
+use Rattle.geometry.proofs.Laws.{low-in-block, entry-in-block, map-word-inside, map-covers, entry-word-inside, content-word-inside, content-word-after}
 use Rattle.image.specs.declared.Slot.the-variants.{Live, Dead}
 use Rattle.image.specs.declared.Found.the-variants.{At, Nothing}
 use Rattle.image.specs.Words.{Image, Shaped, word, eraseCount, leastMapped, greatestMapped, freeMap, mapBit, entry, contents}
-use Rattle.image.specs.Slots.{validBit, slotOf, slot, isFree, isLive, isFaulty, find, mapOf}
+use Rattle.image.specs.Slots.{validBit, slotOf, ownSlot, slot, isFree, isLive, isFaulty, find, mapOf}
 use Rattle.image.specs.Blocks.{blank, full, freeSlots}
-use Rattle.image.specs.WellFormed.{R6}
-use Rattle.image.proofs.Entries.{dead-slot, released-entry}
+use Rattle.image.specs.WellFormed.{R6, NoneSuperseded}
+use Rattle.image.proofs.Entries.{invalid-dead}
+use Rattle.image.proofs.Own.{none-superseded, each-own}
 use Rattle.image.proofs.Reading.{entry-inside}
-use Rattle.image.proofs.Facts.{Sound, live-word}
+use Rattle.image.proofs.Facts.{Sound}
 use Rattle.image.proofs.Finding.{LiveAt, found-live, none-found, map-nothing, find-same, map-same}
 use Rattle.image.proofs.Places.{apart, contents-at, contents-are, contents-long}
 use Rattle.tables.specs.Tables.{rightTable}
@@ -35,7 +38,7 @@ use Rattle.flash.specs.Tables.{tableReleased}
 use Rattle.flash.proofs.Stores.{Exact, last-here, last-other, exact-one, run-words}
 use Rattle.flash.proofs.Counts.{releasing-words, releasing-erasures}
 use Rattle.flash.proofs.Filling.{Ready}
-use Rattle.flash.proofs.Kept.{not-live, at-slot, dead-not-free, same-number}
+use Rattle.flash.proofs.Changed.{not-live, at-slot, dead-not-free, same-number}
 
 -- what the steps of a release of n leave
 pub record Released (geo : Geometry) (image : Image) (n : ℕ) (steps : List Step) : Type 0 where
@@ -86,22 +89,6 @@ module _ (geo : Geometry) (image : Image) (n b i : ℕ) (start : Ready geo image
   shaped-after : Shaped geo after
   shaped-after = record { limits = within; long = exact .long ∙ start .shaped .long }
 
-  dead : slot geo after b i ≡ Dead
-  unfolding slot entry
-  dead =
-      let was = live-word geo image b i (start .words) (at .live) in
-      let small : n < 2 ^ 29 = omega (arith, logical-small geo within, was .1) in
-      ap (slotOf (geo .logical))
-      (exact .words here-place
-      ∙ last-here here-place (cleared (entry geo image b i) validBit) (word image here-place)
-      ∙ ap (λ (w : ℕ). cleared w validBit) (was .0)
-      ∙ released-entry n small)
-      ∙ dead-slot (geo .logical) (0x40000000 + n) (omega arith) (λ q. omega arith) (λ q. omega arith)
-
-  slot-other : (c j : ℕ) → j < d geo → (c ≡ b → j ≡ i → ⊥) → slot geo after c j ≡ slot geo image c j
-  unfolding slot entry
-  slot-other c j l n' = ap (slotOf (geo .logical)) (elsewhere c (entryWord geo j) (entry-in-block geo within l) (λ p e. n' p (omega arith)))
-
   counts : (c : ℕ) → eraseCount geo after c ≡ eraseCount geo image c
   unfolding eraseCount
   counts c = low-word c eraseWord (omega arith)
@@ -113,6 +100,41 @@ module _ (geo : Geometry) (image : Image) (n b i : ℕ) (start : Ready geo image
   map-same-bit : (c j : ℕ) → j < 32 * k geo → mapBit geo after c j ≡ mapBit geo image c j
   unfolding freeMap
   map-same-bit c j l = ap (λ (w : ℕ). isSet w (j % 32)) (low-word c (mapWord j) (map-word-inside geo within {i = j} l))
+
+  -- by their own entries and map bits: this one is not valid any more, all others are as they were
+  own-dead : ownSlot geo after b i ≡ Dead
+  unfolding ownSlot entry
+  own-dead =
+      ap (slotOf (geo .logical) (mapBit geo after b i))
+      (exact .words here-place ∙ last-here here-place (cleared (entry geo image b i) validBit) (word image here-place))
+      ∙ invalid-dead (geo .logical) (mapBit geo after b i) (cleared (entry geo image b i) validBit)
+      (clear-bit _ validBit (cleared-here (entry geo image b i) validBit))
+
+  own-other : (c j : ℕ) → c < geo .blocks → j < d geo → (c ≡ b → j ≡ i → ⊥) → ownSlot geo after c j ≡ slot geo image c j
+  unfolding ownSlot entry
+  own-other c j l h n' =
+      ap₂ (slotOf (geo .logical))
+      (map-same-bit c j (omega (arith, map-covers geo within)))
+      (elsewhere c (entryWord geo j) (entry-in-block geo within h) (λ p e. n' p (omega arith)))
+      ∙ sym (each-own (start .sound .current) l h)
+
+  own-was : (m c j : ℕ) → c < geo .blocks → j < d geo → ownSlot geo after c j ≡ Live m → slot geo image c j ≡ Live m
+  own-was m c j l h e =
+      at-slot c j b i
+      (λ x y. absurd (not-live (ap isLive (ap₂ (ownSlot geo after) x y ∙ own-dead)) e))
+      (λ o. sym (own-other c j l h o) ∙ e)
+
+  -- so no slot is superseded
+  current : NoneSuperseded geo after
+  current =
+      none-superseded geo after
+      (λ m c c' j j' l l' h h' e e'. start .sound .once m c c' j j' l l' h h' (own-was m c j l h e) (own-was m c' j' l' h' e'))
+
+  dead : slot geo after b i ≡ Dead
+  dead = each-own current (at .block) (at .slot-of) ∙ own-dead
+
+  slot-other : (c j : ℕ) → c < geo .blocks → j < d geo → (c ≡ b → j ≡ i → ⊥) → slot geo after c j ≡ slot geo image c j
+  slot-other c j l h n' = each-own current l h ∙ own-other c j l h n'
 
   contents-same : (c j : ℕ) → c < geo .blocks → j < d geo → contents geo after c j ≡ contents geo image c j
   contents-same c j l h =
@@ -130,21 +152,20 @@ module _ (geo : Geometry) (image : Image) (n b i : ℕ) (start : Ready geo image
   was-at : {c j : ℕ} → c ≡ b → j ≡ i → slot geo image c j ≡ Live n
   was-at x y = ap₂ (slot geo image) x y ∙ at .live
 
-  free-same : (c j : ℕ) → j < d geo → isFree (slot geo after c j) ≡ isFree (slot geo image c j)
-  free-same c j l =
-      at-slot c j b i (λ x y. ap isFree (released-at x y) ∙ sym (ap isFree (was-at x y))) (λ o. ap isFree (slot-other c j l o))
+  free-same : (c j : ℕ) → c < geo .blocks → j < d geo → isFree (slot geo after c j) ≡ isFree (slot geo image c j)
+  free-same c j l h =
+      at-slot c j b i (λ x y. ap isFree (released-at x y) ∙ sym (ap isFree (was-at x y))) (λ o. ap isFree (slot-other c j l h o))
 
-  live-was : (m c j : ℕ) → j < d geo → slot geo after c j ≡ Live m → slot geo image c j ≡ Live m
-  live-was m c j l e =
-      at-slot c j b i (λ x y. absurd (not-live (ap isLive (released-at x y)) e)) (λ o. sym (slot-other c j l o) ∙ e)
+  live-was : (m c j : ℕ) → c < geo .blocks → j < d geo → slot geo after c j ≡ Live m → slot geo image c j ≡ Live m
+  live-was m c j l h e = own-was m c j l h (sym (each-own current l h) ∙ e)
 
-  full-same : (c : ℕ) → full geo after c ≡ full geo image c
+  full-same : (c : ℕ) → c < geo .blocks → full geo after c ≡ full geo image c
   unfolding full
-  full-same c = ap not (any-ext (d geo) (λ j l. free-same c j l))
+  full-same c l = ap not (any-ext (d geo) (λ j h. free-same c j l h))
 
-  blank-same : (c : ℕ) → blank geo after c ≡ blank geo image c
+  blank-same : (c : ℕ) → c < geo .blocks → blank geo after c ≡ blank geo image c
   unfolding blank
-  blank-same c = all-ext (d geo) (λ j l. free-same c j l)
+  blank-same c l = all-ext (d geo) (λ j h. free-same c j l h)
 
   sound-after : Sound geo after
   sound-after =
@@ -152,20 +173,24 @@ module _ (geo : Geometry) (image : Image) (n b i : ℕ) (start : Ready geo image
       record {
         worn = λ c l. rw (counts c) (s .worn c l);
         map = λ c j l h.
-            map-same-bit c j (omega (arith, map-covers geo within)) ∙ s .map c j l h ∙ sym (free-same c j h);
+            map-same-bit c j (omega (arith, map-covers geo within)) ∙ s .map c j l h ∙ sym (free-same c j l h);
         rest = λ c j l h m. map-same-bit c j m ∙ s .rest c j l h m;
         clean = λ c j l h e m q.
             ap (λ (x : List ℕ). getD x m 0) (contents-same c j l h)
-            ∙ s .clean c j l h (at-slot c j b i (λ x y. absurd (dead-not-free (released-at x y) e)) (λ o. sym (slot-other c j h o) ∙ e)) m q;
+            ∙ s .clean c j l h (at-slot c j b i (λ x y. absurd (dead-not-free (released-at x y) e)) (λ o. sym (slot-other c j l h o) ∙ e)) m q;
         proper = λ c j l h.
-            at-slot c j b i (λ x y. ap isFaulty (released-at x y)) (λ o. ap isFaulty (slot-other c j h o) ∙ s .proper c j l h);
-        once = λ m c c' j j' l l' h h' e e'. s .once m c c' j j' l l' h h' (live-was m c j h e) (live-was m c' j' h' e');
+            at-slot c j b i (λ x y. ap isFaulty (released-at x y)) (λ o. ap isFaulty (slot-other c j l h o) ∙ s .proper c j l h);
+        once = λ m c c' j j' l l' h h' e e'. s .once m c c' j j' l l' h h' (live-was m c j l h e) (live-was m c' j' l' h' e');
         unbounded = λ c l f.
-            let were = s .unbounded c l (sym (full-same c) ∙ f) in
+            let were = s .unbounded c l (sym (full-same c l) ∙ f) in
             (bounds c .0 ∙ were .0, bounds c .1 ∙ were .1);
         bounded = λ c j m l h f e.
-            let were = s .bounded c j m l h (sym (full-same c) ∙ f) (live-was m c j h e) in
+            let were = s .bounded c j m l h (sym (full-same c l) ∙ f) (live-was m c j l h e) in
             (rw (bounds c .0) (were .0), rw (bounds c .1) (were .1));
+        closed = λ c l f.
+            let were = s .closed c l (sym (full-same c l) ∙ f) in
+            (λ e. were .0 (sym (bounds c .0) ∙ e), λ e. were .1 (sym (bounds c .1) ∙ e));
+        current = current;
       }
 
   -- n is found nowhere, and every other number where it was
@@ -173,14 +198,14 @@ module _ (geo : Geometry) (image : Image) (n b i : ℕ) (start : Ready geo image
   gone =
       none-found geo after n
       (λ c j l h e.
-      let same = start .sound .once n c b j i l (at .block) h (at .slot-of) (live-was n c j h e) (at .live) in
+      let same = start .sound .once n c b j i l (at .block) h (at .slot-of) (live-was n c j l h e) (at .live) in
       not-live (ap isLive (released-at (same .0) (same .1))) e)
 
   kept : (m : ℕ) → m ≢ n → find geo after m ≡ find geo image m
   kept m x =
       find-same geo image after m sound-after
-      (λ c j l h e. at-slot c j b i (λ p q. absurd (x (same-number e (was-at p q)))) (λ o. slot-other c j h o ∙ e))
-      (λ c j l h e. live-was m c j h e)
+      (λ c j l h e. at-slot c j b i (λ p q. absurd (x (same-number e (was-at p q)))) (λ o. slot-other c j l h o ∙ e))
+      (λ c j l h e. live-was m c j l h e)
 
   steps-are : releasing geo image n ≡ steps
   unfolding releasing
@@ -200,10 +225,10 @@ module _ (geo : Geometry) (image : Image) (n b i : ℕ) (start : Ready geo image
               words = run-words geo image steps (sym (ap erasuresIn steps-are) ∙ releasing-erasures geo image n) (start .words);
               sound = sound-after;
             };
-        still-blank = any-ext (geo .blocks) (λ c l. blank-same c);
+        still-blank = any-ext (geo .blocks) (λ c l. blank-same c l);
         here = map-nothing geo after n gone;
         other = λ m x. map-same geo image after m (kept m x) (λ c j l h e. contents-same c j l h);
-        free = sum-ext (geo .blocks) (λ c l. sum-ext (d geo) (λ j h. ap one-if (free-same c j h)));
+        free = sum-ext (geo .blocks) (λ c l. sum-ext (d geo) (λ j h. ap one-if (free-same c j l h)));
         worn = sum-ext (geo .blocks) (λ c l. counts c);
       })
 

@@ -13,7 +13,7 @@ use Rattle.ranges.proofs.Tests.{none-at, any-at}
 use Rattle.geometry.specs.declared.Geometry.{Geometry}
 use Rattle.geometry.specs.Geometry.{d}
 use Rattle.image.specs.declared.Slot.{Slot}
-use Rattle.image.specs.declared.Slot.the-variants.{Free, Live, Dead, Faulty}
+use Rattle.image.specs.declared.Slot.the-variants.{Free, Live, Dead, Faulty, Superseded}
 use Rattle.image.specs.declared.Found.{Found}
 use Rattle.image.specs.declared.Found.the-variants.{At}
 use Rattle.image.specs.Words.{Image, eraseCount}
@@ -45,6 +45,7 @@ module _ (geo : Geometry) (image : Image) where
   noted-keeps P x (Live k) now h step = step k refl
   noted-keeps P x Dead now h step = h
   noted-keeps P x Faulty now h step = h
+  noted-keeps P x Superseded now h step = h
 
   -- what holds of a table at each turn of the copying, if it passes from each turn to the next
   copied-keeps :

@@ -25,7 +25,7 @@ use Rattle.image.proofs.Capacity.{block-parts, blank-free, full-free, shut-full
 use Rattle.tables.specs.Tables.{rightTable}
 use Rattle.flash.specs.Steps.{Step, run, wordsIn, erasuresIn, erasesBlock, leavesAsked}
 use Rattle.flash.specs.Placing.{placing}
-use Rattle.flash.specs.Writing.{FoundInPlace, filling, mustReclaim, copying, reclaiming, reclaimingFirst, writing}
+use Rattle.flash.specs.Writing.{EachInTurn, filling, mustReclaim, copying, reclaiming, reclaimingFirst, writing}
 use Rattle.flash.specs.Tables.{tableReclaimed, tableFilled, tableReclaimedFirst, tableWritten}
 use Rattle.flash.proofs.Stores.{run-append, asked-append, words-append, erasures-append}
 use Rattle.flash.proofs.Clearing.{erases-append, erases-none}
@@ -34,7 +34,7 @@ use Rattle.flash.proofs.Unused.{SparesUnused, spares-append, placing-sp
 use Rattle.flash.proofs.Filling.{Ready, Target}
 use Rattle.flash.proofs.Placed.{Placed, placing-exact, placing-placed, placing-bounds, placing-cost, placing-shaped, placing-words32}
 use Rattle.flash.proofs.Kept.{free-as-before, placed-sound, placed-right, placed-here, placed-other, placed-free}
-use Rattle.flash.proofs.Moving.{moved, found-in-place}
+use Rattle.flash.proofs.Moving.{moved, each-in-turn}
 use Rattle.flash.proofs.Reclaimed.{Reclaimed, reclaimed}
 use Rattle.flash.proofs.Chosen.{Choice, blank-slot, slots-blank, choice, reclaim-says}
 
@@ -102,7 +102,7 @@ module _ (geo : Geometry) (image : Image) (n : ℕ) (ws : List ℕ) (start : Rea
       record {
         shaped = placing-shaped geo image n ws b i start target;
         words = placing-words32 geo image n ws b i start target;
-        sound = placed-sound geo image after n ws b i start target p (placing-bounds geo image n ws b i start target) (placing-words32 geo image n ws b i start target);
+        sound = placed-sound geo image after n ws b i start target p (placing-bounds geo image n ws b i start target);
       }
 
   -- the spare block is still blank
@@ -127,8 +127,8 @@ module _ (geo : Geometry) (image : Image) (n : ℕ) (ws : List ℕ) (start : Rea
         asked = placing-exact geo image n ws b i start target .asked;
         ready = ready-after;
         still-blank = blank-after;
-        here = placed-here geo image after n ws b i start target p (placing-bounds geo image n ws b i start target) (placing-words32 geo image n ws b i start target);
-        other = placed-other geo image after n ws b i start target p (placing-bounds geo image n ws b i start target) (placing-words32 geo image n ws b i start target);
+        here = placed-here geo image after n ws b i start target p (placing-bounds geo image n ws b i start target);
+        other = placed-other geo image after n ws b i start target p (placing-bounds geo image n ws b i start target);
         erases = omega (arith, none);
         plain = λ e. few;
         words = omega (arith, few, g-at-most-d geo within);
@@ -149,7 +149,7 @@ module _ (geo : Geometry) (image : Image) (n : ℕ) (ws : List ℕ) (start : Rea
   unfolding filling tableFilled
   filling-right =
       rw (c .chosen .at)
-      (placed-right geo image after n ws b i start target p (placing-bounds geo image n ws b i start target) (placing-words32 geo image n ws b i start target))
+      (placed-right geo image after n ws b i start target p (placing-bounds geo image n ws b i start target))
 
 -- ---- rule 3, with any full block of at least g dead slots whose count is below the ceiling
 
@@ -207,8 +207,8 @@ module _
         reclaimed geo image v t start (victim-is .block) blank-in apart
         (blank-slot geo image t is-blank) spare (victim-is .wearable)
 
-    pub victim-in-place : FoundInPlace geo image v t
-    victim-in-place = found-in-place geo image v t start (victim-is .block) blank-in apart (blank-slot geo image t is-blank) spare
+    pub victim-in-turn : EachInTurn geo image v t
+    victim-in-turn = each-in-turn geo image v t start (victim-is .block) blank-in apart (blank-slot geo image t is-blank) spare
 
     -- a slot of the victim is as it was at the start when it has its turn
     pub victim-at-turn :
@@ -379,7 +379,7 @@ module _ (geo : Geometry) (image : Image) (start : Ready geo image) (must : must
       record {
         block = victim-in;
         filled = best-passes (preferred geo image) (geo .blocks) (full geo image) victim-in;
-        dead = victim-dead geo image (start .sound) rule-limits (says .0) (says .1) (start .words);
+        dead = victim-dead geo image (start .sound) rule-limits (says .0) (says .1);
         wearable = omega (arith, start .sound .worn (victim geo image) victim-in);
       }
 

@@ -36,7 +36,7 @@ module _ (geo : Geometry) where
   programsEntry (At b i) asked = Program (place geo b (entryWord geo i)) asked ∷ []
   programsEntry Nothing asked = []
 
-  -- (b): the old entry, if there is one, is marked as no longer current
+  -- (b): the old entry, if there is one, is marked as no longer current; one in passing is so already, and is asked for as it is (K4)
   abbrev pub outdates : Image → Found → List Step
   outdates image old = programsEntry old (cleared (entryAt image old) currentBit)
 

@@ -1,5 +1,5 @@
 -- A write as a list of steps: rules 1, 2 and 3 (FORMAT.md, Writing).
-use mathlib.Core.Bool.{Bool, not, cond, _&&_}
+use mathlib.Core.Bool.{Bool, true, not, cond, _&&_}
 use mathlib.Core.List.{List, [], _∷_, _++_}
 use mathlib.Core.Path.{_≡_}
 use Prim.Native.Nat.{ℕ, zero, suc, _+_, _<_}
@@ -11,11 +11,11 @@ use Rattle.geometry.specs.Places.{place, eraseWord}
 use Rattle.image.specs.declared.Found.{Found}
 use Rattle.image.specs.declared.Found.the-variants.{At, Nothing}
 use Rattle.image.specs.declared.Slot.{Slot}
-use Rattle.image.specs.declared.Slot.the-variants.{Free, Live, Dead, Faulty}
+use Rattle.image.specs.declared.Slot.the-variants.{Free, Live, Dead, Faulty, Superseded}
 use Rattle.image.specs.Words.{Image, eraseCount, contents}
 use Rattle.image.specs.Slots.{slot, find}
 use Rattle.image.specs.Blocks.{blank, isOpen, lowestFree, lowestOpen, leastWornBlank, victim}
-use Rattle.image.specs.WellFormed.{ceiling}
+use Rattle.image.specs.WellFormed.{ceiling, sound}
 use Rattle.flash.specs.declared.Plan.{Plan}
 use Rattle.flash.specs.declared.Plan.the-variants.{Fill, Reclaim, Worn}
 use Rattle.flash.specs.Steps.{Step, Program, Erase, run}
@@ -65,6 +65,7 @@ module _ (geo : Geometry) where
       }
   copiedSlot now v t i before Dead = before
   copiedSlot now v t i before Faulty = before
+  copiedSlot now v t i before Superseded = before
 
   -- the copying of a reclaim, for the first m slots of v: the live ones go to slots 0, 1, .. of t, each in its turn
   unfoldable pub copying : Image → ℕ → ℕ → ℕ → Copied
@@ -74,14 +75,17 @@ module _ (geo : Geometry) where
       let now = run geo image (before .steps) in
       copiedSlot now v t m before (slot geo now v m)
 
-  -- when a live slot of v has its turn, it is the one where its number is found: so for the victim and the blank block of every reclaim of a
-  -- well-formed image (proofs/Written: victim-in-place)
-  pub record FoundInPlace (image : Image) (v t : ℕ) : Type 0 where
-    pub at-its-turn :
-        (m n : ℕ) →
-        m < d geo →
-        slot geo (run geo image (copying image v t m .steps)) v m ≡ Live n →
-        find geo (run geo image (copying image v t m .steps)) n ≡ At v m
+  -- the image when slot m of v has its turn
+  abbrev pub atTurn : Image → ℕ → ℕ → ℕ → Image
+  atTurn image v t m = run geo image (copying image v t m .steps)
+
+  -- Each slot of v in its turn: the image is sound then; and where the slot is live, its number is found there, and the slot of t that it goes to is
+  -- free. So for the victim and the blank block of every reclaim of a well-formed image (proofs/Written: victim-in-turn).
+  pub record EachInTurn (image : Image) (v t : ℕ) : Type 0 where
+    pub sound-then : (m : ℕ) → m < d geo → sound geo (atTurn image v t m) ≡ true
+    pub found-there : (m n : ℕ) → m < d geo → slot geo (atTurn image v t m) v m ≡ Live n → find geo (atTurn image v t m) n ≡ At v m
+    pub room-there :
+        (m n : ℕ) → m < d geo → slot geo (atTurn image v t m) v m ≡ Live n → slot geo (atTurn image v t m) t (copying image v t m .taken) ≡ Free
 
   -- the end of a reclaim: v is erased, and its word 0 programmed with one more than it was
   abbrev pub erasing : Image → ℕ → List Step

@@ -15,19 +15,21 @@ use Rattle.geometry.specs.declared.Geometry.{Geometry}
 use Rattle.geometry.specs.Geometry.{Limits, d, room, g}
 use Rattle.geometry.proofs.Laws.{d-positive, rounded-up-le}
 use Rattle.image.specs.declared.Slot.{Slot}
-use Rattle.image.specs.declared.Slot.the-variants.{Free, Live, Dead, Faulty}
-use Rattle.image.specs.Words.{Image, Words32}
+use Rattle.image.specs.declared.Slot.the-variants.{Free, Live, Dead, Faulty, Superseded}
+use Rattle.image.specs.Words.{Image}
 use Rattle.image.specs.Slots.{slot, isFree, isLive, isDead, isFaulty, isLiveFor}
 use Rattle.image.specs.Blocks.{blank, full, isOpen, freeSlots, liveSlots, deadSlots, lessWorn, preferred, victim}
 use Rattle.image.proofs.Reading.{blank-count, full-count}
-use Rattle.image.proofs.Facts.{Sound, live-for, live-word}
+use Rattle.image.proofs.Own.{not-superseded, live-number}
+use Rattle.image.proofs.Facts.{Sound, live-for}
 
--- each slot that is no fault is free, live or dead
-slot-parts : (s : Slot) → isFaulty s ≡ false → one-if (isFree s) + one-if (isLive s) + one-if (isDead s) ≡ 1
-slot-parts Free e = refl
-slot-parts (Live n) e = refl
-slot-parts Dead e = refl
-slot-parts Faulty e = absurd (true≢false e)
+-- each slot that is neither faulty nor superseded is free, live or dead
+slot-parts : (s : Slot) → isFaulty s ≡ false → (s ≡ Superseded → ⊥) → one-if (isFree s) + one-if (isLive s) + one-if (isDead s) ≡ 1
+slot-parts Free e n = refl
+slot-parts (Live n) e m = refl
+slot-parts Dead e n = refl
+slot-parts Faulty e n = absurd (true≢false e)
+slot-parts Superseded e n = absurd (n refl)
 
 module _ (geo : Geometry) (image : Image) (s : Sound geo image) where
   pub block-parts : (b : ℕ) → b < geo .blocks → freeSlots geo image b + liveSlots geo image b + deadSlots geo image b ≡ d geo
@@ -39,7 +41,7 @@ module _ (geo : Geometry) (image : Image) (s : Sound geo image) where
         arith,
         sum-add (d geo) (λ i. frees i + lives i) deads,
         sum-add (d geo) frees lives,
-        sum-ext (d geo) (λ i h. slot-parts (slot geo image b i) (s .proper b i l h)),
+        sum-ext (d geo) (λ i h. slot-parts (slot geo image b i) (s .proper b i l h) (not-superseded geo image b i (s .current .none b i l h))),
         sum-const (d geo) 1,
       )
 
@@ -58,32 +60,32 @@ module _ (geo : Geometry) (image : Image) (s : Sound geo image) where
 
   -- ---- no number is live in two slots: so no more slots are live than there are numbers
 
-  module _ (words : Words32 image) where
-    live-counted :
-        (b i : ℕ) → one-if (isLive (slot geo image b i)) ≤ sumBelow (geo .logical) (λ n. one-if (isLiveFor n (slot geo image b i)))
-    live-counted b i = go (slot geo image b i) refl
-      where
-        go : (x : Slot) → slot geo image b i ≡ x → one-if (isLive x) ≤ sumBelow (geo .logical) (λ n. one-if (isLiveFor n x))
-        go Free e = omega arith
-        go (Live k) e = omega (arith, term-le-sum (geo .logical) (λ n. one-if (eqb k n)) (live-word geo image b i words e .1), ap one-if (eq-eqb k k refl))
-        go Dead e = omega arith
-        go Faulty e = omega arith
+  live-counted :
+      (b i : ℕ) → one-if (isLive (slot geo image b i)) ≤ sumBelow (geo .logical) (λ n. one-if (isLiveFor n (slot geo image b i)))
+  live-counted b i = go (slot geo image b i) refl
+    where
+      go : (x : Slot) → slot geo image b i ≡ x → one-if (isLive x) ≤ sumBelow (geo .logical) (λ n. one-if (isLiveFor n x))
+      go Free e = omega arith
+      go (Live k) e = omega (arith, term-le-sum (geo .logical) (λ n. one-if (eqb k n)) (live-number geo image b i e), ap one-if (eq-eqb k k refl))
+      go Dead e = omega arith
+      go Faulty e = omega arith
+      go Superseded e = omega arith
 
-    once-counted : (n : ℕ) → sumBelow (geo .blocks) (λ b. countBelow (d geo) (λ i. isLiveFor n (slot geo image b i))) ≤ 1
-    once-counted n =
-        count-pairs-at-most-one (geo .blocks) (d geo)
-        (λ b i. isLiveFor n (slot geo image b i))
-        (λ b c i j l l' h h' e e'. s .once n b c i j l l' h h' (live-for n _ e) (live-for n _ e'))
+  once-counted : (n : ℕ) → sumBelow (geo .blocks) (λ b. countBelow (d geo) (λ i. isLiveFor n (slot geo image b i))) ≤ 1
+  once-counted n =
+      count-pairs-at-most-one (geo .blocks) (d geo)
+      (λ b i. isLiveFor n (slot geo image b i))
+      (λ b c i j l l' h h' e e'. s .once n b c i j l l' h h' (live-for n _ e) (live-for n _ e'))
 
-    -- so no more than L slots are live
-    pub live-at-most : sumBelow (geo .blocks) (liveSlots geo image) ≤ geo .logical
-    live-at-most =
-        let at : ℕ → ℕ → ℕ → ℕ = λ n b i. one-if (isLiveFor n (slot geo image b i)) in
-        let each = sum-mono (geo .blocks) (λ b l. sum-mono (d geo) (λ i h. live-counted b i)) in
-        let inner = sum-ext (geo .blocks) (λ b l. sum-swap (d geo) (geo .logical) (λ i n. at n b i)) in
-        let outer = sum-swap (geo .blocks) (geo .logical) (λ b n. sumBelow (d geo) (at n b)) in
-        let single = sum-bound (geo .logical) 1 (λ n l. once-counted n) in
-        omega arith
+  -- so no more than L slots are live
+  pub live-at-most : sumBelow (geo .blocks) (liveSlots geo image) ≤ geo .logical
+  live-at-most =
+      let at : ℕ → ℕ → ℕ → ℕ = λ n b i. one-if (isLiveFor n (slot geo image b i)) in
+      let each = sum-mono (geo .blocks) (λ b l. sum-mono (d geo) (λ i h. live-counted b i)) in
+      let inner = sum-ext (geo .blocks) (λ b l. sum-swap (d geo) (geo .logical) (λ i n. at n b i)) in
+      let outer = sum-swap (geo .blocks) (geo .logical) (λ b n. sumBelow (d geo) (at n b)) in
+      let single = sum-bound (geo .logical) 1 (λ n l. once-counted n) in
+      omega arith
 
   -- ---- a block that is not open is blank or full
 
@@ -148,16 +150,15 @@ module _ (geo : Geometry) (image : Image) (s : Sound geo image) where
 
     -- A block with at least as many dead slots as each full block has at least g.
     pub most-dead :
-        Words32 image →
         (D : ℕ) →
         ((b : ℕ) → b < geo .blocks → full geo image b ≡ true → deadSlots geo image b ≤ D) →
         g geo ≤ D
     unfolding g
-    most-dead words D most =
+    most-dead D most =
         let lives : ℕ → ℕ = liveSlots geo image in
         let fulls : ℕ → ℕ = λ b. D * one-if (full geo image b) in
         let blanks : ℕ → ℕ = λ b. d geo * one-if (blank geo image b) in
-        let few = live-at-most words in
+        let few = live-at-most in
         let all = sum-mono (geo .blocks) (λ b l. shut-size D b l (most b l)) in
         let one-more : (geo .blocks - 1 + 1) * d geo ≡ geo .blocks * d geo = ap (_* d geo) (omega (arith, within .blocks-low)) in
         rounded-up-le (room geo - geo .logical) (geo .blocks - 1) D (omega (arith, within .blocks-low))
@@ -188,8 +189,8 @@ module _ (geo : Geometry) (image : Image) (s : Sound geo image) where
               (neither-passes (ltb (deadSlots geo image r) (deadSlots geo image b)) (eqb (deadSlots geo image r) (deadSlots geo image b) && lessWorn geo image b r) t .0),
         )
 
-    pub victim-dead : Words32 image → g geo ≤ deadSlots geo image (victim geo image)
+    pub victim-dead : g geo ≤ deadSlots geo image (victim geo image)
     unfolding victim
-    victim-dead words =
-        most-dead words (deadSlots geo image (victim geo image))
+    victim-dead =
+        most-dead (deadSlots geo image (victim geo image))
         (λ b l f. best-most (preferred geo image) (deadSlots geo image) preferred-more preferred-less (geo .blocks) (full geo image) l f)

@@ -1,26 +1,26 @@
--- R1 to R5 and R7 as facts about slots, and back: `sound` passes exactly where they hold. What a step keeps is shown of the facts.
+-- R1 to R5, R7 and R8 as facts about slots, and back: `sound` passes exactly where they hold. What a step keeps is shown of the facts.
 -- Assumes nothing.
 use mathlib.Core.Path.{_≡_, refl, sym, ap, _∙_}
-use mathlib.Core.Bool.{Bool, true, false, not, Bool·beq, true≢false, false≢true}
+use mathlib.Core.Logic.{_≢_}
+use mathlib.Core.Bool.{Bool, true, false, not, _&&_, true≢false, false≢true}
 use Prim.Native.Nat.{ℕ, _+_, _*_, _-_, _<_, _≤_}
 use native.Mathlib.Decide.{decLt}
 use native.Mathlib.Omega.{arith}
 use lib.ListN.{getD}
-use borrow.Author.Tests.{eq-eqb, eqb-true, le-leb, leb-true, not-true, not-false}
+use borrow.Author.Tests.{eq-eqb, ne-eqb, eqb-true, eqb-false, le-leb, leb-true, not-true, not-false}
 use Rattle.ranges.specs.Range.{_implies_, anyBelow}
 use Rattle.ranges.proofs.Tests.{unless, both-pass, neither-passes, all-at, all-of, none-at, none-of}
 use Rattle.bits.specs.Word.{ones}
 use Rattle.geometry.specs.declared.Geometry.{Geometry}
 use Rattle.geometry.specs.Geometry.{d, k, sectorWords}
-use Rattle.geometry.specs.Places.{place, entryWord}
 use Rattle.image.specs.declared.Slot.{Slot}
-use Rattle.image.specs.declared.Slot.the-variants.{Free, Live, Dead, Faulty}
-use Rattle.image.specs.Words.{Image, Words32, eraseCount, leastMapped, greatestMapped, mapBit, entry, contents}
-use Rattle.image.specs.Slots.{slot, isFree, isFaulty, isLiveWith, isLiveFor, liveIn}
+use Rattle.image.specs.declared.Slot.the-variants.{Free, Live, Dead, Faulty, Superseded}
+use Rattle.image.specs.Words.{Image, eraseCount, leastMapped, greatestMapped, mapBit, entry, contents}
+use Rattle.image.specs.Slots.{slot, superseded, isFreeEntry, isFree, isFaulty, isLiveWith, isLiveFor, liveIn}
 use Rattle.image.specs.Blocks.{full}
-use Rattle.image.specs.WellFormed.{ceiling, allOnes, mapAgrees, restSet, liveBefore, outOfBounds, R1, R2, R3, R4, R5, R6, R7, soundBlock, sound, wellFormed, MapsAgree}
-use Rattle.image.proofs.Entries.{live-entry}
-use Rattle.image.proofs.Reading.{map-says, map-rest, free-read}
+use Rattle.image.specs.WellFormed.{ceiling, allOnes, mapAgrees, restSet, liveBefore, noneTwice, boundsSet, outOfBounds, R1, R2, R3, R4, R5, R6, R7, R8, soundBlock, sound, wellFormed, MapsAgree, NoneSuperseded}
+use Rattle.image.proofs.Own.{Once, free-read}
+use Rattle.image.proofs.Reading.{map-says, map-rest}
 
 -- ---- a live slot's number
 
@@ -29,16 +29,10 @@ live-for n Free e = absurd (false≢true e)
 live-for n (Live m) e = ap Live (eqb-true m n e)
 live-for n Dead e = absurd (false≢true e)
 live-for n Faulty e = absurd (false≢true e)
+live-for n Superseded e = absurd (false≢true e)
 
 pub live-is-for : {n : ℕ} {s : Slot} → s ≡ Live n → isLiveFor n s ≡ true
 live-is-for {n} e = rw e (eq-eqb n n refl)
-
--- and its word, in an image of words of 32 bits
-pub live-word :
-    (geo : Geometry) (image : Image) (b i : ℕ) {n : ℕ} → Words32 image → slot geo image b i ≡ Live n → (entry geo image b i ≡ 0xC0000000 + n) × (n < geo .logical)
-unfolding slot entry
-live-word geo image b i {n} words e =
-    live-entry (geo .logical) (entry geo image b i) n (words .small (place geo b (entryWord geo i))) e
 
 -- no slot but a live one passes a test of its number
 pub each-live : {f : ℕ → Bool} (s : Slot) → ((n : ℕ) → s ≡ Live n → f n ≡ false) → not (isLiveWith f s) ≡ true
@@ -46,6 +40,7 @@ each-live Free h = refl
 each-live (Live n) h = rw (h n refl)
 each-live Dead h = refl
 each-live Faulty h = refl
+each-live Superseded h = refl
 
 pub live-fails : (f : ℕ → Bool) {n : ℕ} {s : Slot} → not (isLiveWith f s) ≡ true → s ≡ Live n → f n ≡ false
 live-fails f {n} h e = not-true (f n) (rw e at h)
@@ -55,6 +50,63 @@ free-is Free e = refl
 free-is (Live n) e = absurd (false≢true e)
 free-is Dead e = absurd (false≢true e)
 free-is Faulty e = absurd (false≢true e)
+free-is Superseded e = absurd (false≢true e)
+
+-- ---- no number is live twice
+
+module _ (geo : Geometry) (kind : ℕ → ℕ → Slot) where
+  -- a number that is live in slot i of block b is live in no earlier slot
+  not-before : (b i n : ℕ) → noneTwice geo kind b ≡ true → i < d geo → kind b i ≡ Live n → liveBefore geo kind b i n ≡ false
+  not-before b i n r l e = live-fails (liveBefore geo kind b i) (all-at (d geo) _ r i l) e
+
+  -- no slot of an earlier block, and no earlier slot of this one, is live for n
+  none-before :
+      (b i n : ℕ) →
+      noneTwice geo kind b ≡ true →
+      i < d geo →
+      kind b i ≡ Live n →
+      (anyBelow b (λ c. anyBelow (d geo) (λ j. isLiveFor n (kind c j))) ≡ false) × (anyBelow i (λ j. isLiveFor n (kind b j)) ≡ false)
+  none-before b i n r l e =
+      neither-passes (anyBelow b (λ c. anyBelow (d geo) (λ j. isLiveFor n (kind c j)))) (anyBelow i (λ j. isLiveFor n (kind b j))) (not-before b i n r l e)
+
+  earlier-block : (b c i j n : ℕ) → noneTwice geo kind b ≡ true → c < b → i < d geo → j < d geo → kind b i ≡ Live n → kind c j ≡ Live n → ⊥
+  earlier-block b c i j n r l p q e e' =
+      let none = none-at (d geo) (λ j. isLiveFor n (kind c j)) (none-at b (λ c. anyBelow (d geo) (λ j. isLiveFor n (kind c j))) (none-before b i n r p e .0) c l) in
+      true≢false (sym (live-is-for e') ∙ none j q)
+
+  earlier-slot : (b i j n : ℕ) → noneTwice geo kind b ≡ true → j < i → i < d geo → kind b i ≡ Live n → kind b j ≡ Live n → ⊥
+  earlier-slot b i j n r l p e e' =
+      true≢false (sym (live-is-for e') ∙ none-at i (λ j. isLiveFor n (kind b j)) (none-before b i n r p e .1) j l)
+
+  -- from the test of every block to the fact
+  pub once-of : ((b : ℕ) → b < geo .blocks → noneTwice geo kind b ≡ true) → Once geo kind
+  once-of r n b c i j l m p q e e' = same (decLt c b) (decLt b c)
+    where
+      in-block : (j : ℕ) → j < d geo → kind b j ≡ Live n → Dec (j < i) → Dec (i < j) → i ≡ j
+      in-block j q e' (yes h) k = absurd (earlier-slot b i j n (r b l) h p e e')
+      in-block j q e' (no h) (yes k) = absurd (earlier-slot b j i n (r b l) k q e' e)
+      in-block j q e' (no h) (no k) = omega arith
+
+      same : Dec (c < b) → Dec (b < c) → (b ≡ c) × (i ≡ j)
+      same (yes h) k = absurd (earlier-block b c i j n (r b l) h p q e e')
+      same (no h) (yes k) = absurd (earlier-block c b j i n (r c m) k q p e' e)
+      same (no h) (no k) =
+          let s : b ≡ c = omega arith in
+          (s, in-block j q (ap (λ (x : ℕ). kind x j) s ∙ e') (decLt j i) (decLt i j))
+
+  -- and back
+  pub once-tests : Once geo kind → (b : ℕ) → b < geo .blocks → noneTwice geo kind b ≡ true
+  once-tests once b l = all-of (d geo) (λ i h. each-live (kind b i) (λ n e. rw (blocks-before i n h e, slots-before i n h e)))
+    where
+      blocks-before : (i n : ℕ) → i < d geo → kind b i ≡ Live n → anyBelow b (λ c. anyBelow (d geo) (λ j. isLiveFor n (kind c j))) ≡ false
+      blocks-before i n h e =
+          none-of b
+          (λ c m. none-of (d geo)
+          (λ j q. unless _ (λ t. let same = once n b c i j l (omega arith) h q e (live-for n _ t) in omega arith)))
+
+      slots-before : (i n : ℕ) → i < d geo → kind b i ≡ Live n → anyBelow i (λ j. isLiveFor n (kind b j)) ≡ false
+      slots-before i n h e =
+          none-of i (λ j q. unless _ (λ t. let same = once n b b i j l l h (omega arith) e (live-for n _ t) in omega arith))
 
 -- ---- the facts
 
@@ -65,15 +117,7 @@ pub record Sound (geo : Geometry) (image : Image) : Type 0 where
   pub clean :
       (b i : ℕ) → b < geo .blocks → i < d geo → slot geo image b i ≡ Free → (j : ℕ) → j < sectorWords → getD (contents geo image b i) j 0 ≡ ones
   pub proper : (b i : ℕ) → b < geo .blocks → i < d geo → isFaulty (slot geo image b i) ≡ false
-  pub once :
-      (n b c i j : ℕ) →
-      b < geo .blocks →
-      c < geo .blocks →
-      i < d geo →
-      j < d geo →
-      slot geo image b i ≡ Live n →
-      slot geo image c j ≡ Live n →
-      (b ≡ c) × (i ≡ j)
+  pub once : Once geo (slot geo image)
   pub unbounded : (b : ℕ) → b < geo .blocks → full geo image b ≡ false → (leastMapped geo image b ≡ ones) × (greatestMapped geo image b ≡ ones)
   pub bounded :
       (b i n : ℕ) →
@@ -82,14 +126,16 @@ pub record Sound (geo : Geometry) (image : Image) : Type 0 where
       full geo image b ≡ true →
       slot geo image b i ≡ Live n →
       (leastMapped geo image b ≤ n) × (n ≤ greatestMapped geo image b)
+  pub closed : (b : ℕ) → b < geo .blocks → full geo image b ≡ true → (leastMapped geo image b ≢ ones) × (greatestMapped geo image b ≢ ones)
+  pub current : NoneSuperseded geo image
 
 -- ---- tests
 
-beq-same : (x y : Bool) → x ≡ y → Bool·beq x y ≡ true
-beq-same true true e = refl
-beq-same true false e = absurd (true≢false e)
-beq-same false true e = absurd (false≢true e)
-beq-same false false e = refl
+-- a bit that says whether an entry is free and the bit set is set over no other
+only-over : (m f : Bool) → m ≡ (f && m) → (m implies f) ≡ true
+only-over true true e = refl
+only-over true false e = sym e
+only-over false f e = refl
 
 -- a test that is asked only where another passes
 asked : (a b : Bool) → (a implies b) ≡ true → a ≡ true → b ≡ true
@@ -104,52 +150,28 @@ module _ (geo : Geometry) (image : Image) where
     r4 : R4 geo image b ≡ true
     r5 : R5 geo image b ≡ true
     r7 : R7 geo image b ≡ true
+    r8 : R8 geo image b ≡ true
 
   rules : sound geo image ≡ true → (b : ℕ) → b < geo .blocks → Rules b
   unfolding sound soundBlock
   rules t b l =
       let all = all-at (geo .blocks) (soundBlock geo image) t b l in
-      let s = both-pass _ (R7 geo image b) all in
-      let s5 = both-pass _ (R5 geo image b) (s .0) in
+      let s = both-pass _ (R8 geo image b) all in
+      let s7 = both-pass _ (R7 geo image b) (s .0) in
+      let s5 = both-pass _ (R5 geo image b) (s7 .0) in
       let s4 = both-pass _ (R4 geo image b) (s5 .0) in
       let s3 = both-pass _ (R3 geo image b) (s4 .0) in
       let s2 = both-pass (R1 geo image b) (R2 geo image b) (s3 .0) in
-      record { r1 = s2 .0; r2 = s2 .1; r3 = s3 .1; r4 = s4 .1; r5 = s5 .1; r7 = s .1 }
+      record { r1 = s2 .0; r2 = s2 .1; r3 = s3 .1; r4 = s4 .1; r5 = s5 .1; r7 = s7 .1; r8 = s .1 }
 
   unrules : ((b : ℕ) → b < geo .blocks → Rules b) → sound geo image ≡ true
   unfolding sound soundBlock
-  unrules h = all-of (geo .blocks) (λ b l. let r = h b l in rw (r .r1, r .r2, r .r3, r .r4, r .r5, r .r7))
+  unrules h = all-of (geo .blocks) (λ b l. let r = h b l in rw (r .r1, r .r2, r .r3, r .r4, r .r5, r .r7, r .r8))
 
   -- ---- from the rules to the facts
 
-  -- R5: a number that is live in slot i of block b is live in no earlier slot
-  not-before : (b i n : ℕ) → R5 geo image b ≡ true → i < d geo → slot geo image b i ≡ Live n → liveBefore geo image b i n ≡ false
-  unfolding R5
-  not-before b i n r l e = live-fails (liveBefore geo image b i) (all-at (d geo) _ r i l) e
-
-  -- no slot of an earlier block, and no earlier slot of this one, is live for n
-  none-before :
-      (b i n : ℕ) →
-      R5 geo image b ≡ true →
-      i < d geo →
-      slot geo image b i ≡ Live n →
-      (anyBelow b (λ c. liveIn geo image c n) ≡ false) × (anyBelow i (λ j. isLiveFor n (slot geo image b j)) ≡ false)
-  none-before b i n r l e =
-      neither-passes (anyBelow b (λ c. liveIn geo image c n)) (anyBelow i (λ j. isLiveFor n (slot geo image b j))) (not-before b i n r l e)
-
-  earlier-block :
-      (b c i j n : ℕ) → R5 geo image b ≡ true → c < b → i < d geo → j < d geo → slot geo image b i ≡ Live n → slot geo image c j ≡ Live n → ⊥
-  earlier-block b c i j n r l p q e e' =
-      let none = none-at (d geo) (λ j. isLiveFor n (slot geo image c j)) (none-at b (λ c. liveIn geo image c n) (none-before b i n r p e .0) c l) in
-      true≢false (sym (live-is-for e') ∙ none j q)
-
-  earlier-slot :
-      (b i j n : ℕ) → R5 geo image b ≡ true → j < i → i < d geo → slot geo image b i ≡ Live n → slot geo image b j ≡ Live n → ⊥
-  earlier-slot b i j n r l p e e' =
-      true≢false (sym (live-is-for e') ∙ none-at i (λ j. isLiveFor n (slot geo image b j)) (none-before b i n r p e .1) j l)
-
   pub sound-facts : sound geo image ≡ true → Sound geo image
-  unfolding R1 R3 R4 R7
+  unfolding R1 R3 R4 R5 R7 R8
   sound-facts t =
       record {
         worn = λ b l. leb-true _ _ (rules t b l .r1);
@@ -158,39 +180,33 @@ module _ (geo : Geometry) (image : Image) where
         clean = λ b i l h e j q.
             eqb-true _ _ (all-at sectorWords _ (asked _ _ (all-at (d geo) _ (rules t b l .r3) i h) (ap isFree e)) j q);
         proper = λ b i l h. not-true _ (all-at (d geo) _ (rules t b l .r4) i h);
-        once = λ n b c i j l m p q e e'. same n b c i j l m p q e e' (decLt c b) (decLt b c);
+        once = once-of geo (slot geo image) (λ b l. rules t b l .r5);
         unbounded = λ b l f.
             let both = both-pass _ _ (rw f at (rules t b l .r7)) in
             (eqb-true _ _ (both .0), eqb-true _ _ (both .1));
         bounded = λ b i n l h f e.
-            let inside = both-pass _ _ (not-false _ (live-fails (outOfBounds geo image b) (all-at (d geo) _ (rw f at (rules t b l .r7)) i h) e)) in
+            let bounds = both-pass (boundsSet geo image b) _ (rw f at (rules t b l .r7)) .1 in
+            let inside = both-pass _ _ (not-false _ (live-fails (outOfBounds geo image b) (all-at (d geo) _ bounds i h) e)) in
             (leb-true _ _ (inside .0), leb-true _ _ (inside .1));
+        closed = λ b l f.
+            let set = neither-passes _ _ (not-true _ (both-pass (boundsSet geo image b) _ (rw f at (rules t b l .r7)) .0)) in
+            (eqb-false _ _ (set .0), eqb-false _ _ (set .1));
+        current = record { none = λ b i l h. none-at (d geo) _ (not-true _ (rules t b l .r8)) i h };
       }
-    where
-      in-block :
-          (n b i j : ℕ) → b < geo .blocks → i < d geo → j < d geo → slot geo image b i ≡ Live n → slot geo image b j ≡ Live n → Dec (j < i) → Dec (i < j) → i ≡ j
-      in-block n b i j l p q e e' (yes h) m = absurd (earlier-slot b i j n (rules t b l .r5) h p e e')
-      in-block n b i j l p q e e' (no h) (yes m) = absurd (earlier-slot b j i n (rules t b l .r5) m q e' e)
-      in-block n b i j l p q e e' (no h) (no m) = omega arith
-
-      same :
-          (n b c i j : ℕ) →
-          b < geo .blocks →
-          c < geo .blocks →
-          i < d geo →
-          j < d geo →
-          slot geo image b i ≡ Live n →
-          slot geo image c j ≡ Live n →
-          Dec (c < b) →
-          Dec (b < c) →
-          (b ≡ c) × (i ≡ j)
-      same n b c i j l m p q e e' (yes h) g = absurd (earlier-block b c i j n (rules t b l .r5) h p q e e')
-      same n b c i j l m p q e e' (no h) (yes g) = absurd (earlier-block c b j i n (rules t c m .r5) g q p e' e)
-      same n b c i j l m p q e e' (no h) (no g) =
-          let s : b ≡ c = omega arith in
-          (s, in-block n b i j l p q e (ap (λ (x : ℕ). slot geo image x j) s ∙ e') (decLt j i) (decLt i j))
 
   -- ---- and back
+
+  -- R2 of one block
+  pub map-agrees :
+      (b : ℕ) →
+      ((i : ℕ) → i < d geo → mapBit geo image b i ≡ isFree (slot geo image b i)) →
+      ((i : ℕ) → d geo ≤ i → i < 32 * k geo → mapBit geo image b i ≡ true) →
+      R2 geo image b ≡ true
+  unfolding R2
+  map-agrees b says rest =
+      let agrees : mapAgrees geo image b ≡ true = all-of (d geo) (λ i h. only-over _ _ (says i h ∙ free-read geo image b i)) in
+      let set : restSet geo image b ≡ true = all-of (32 * k geo - d geo) (λ j h. rest (d geo + j) (omega arith) (omega arith)) in
+      rw (agrees, set)
 
   module _ (s : Sound geo image) (b : ℕ) (l : b < geo .blocks) where
     kept-1 : R1 geo image b ≡ true
@@ -198,12 +214,7 @@ module _ (geo : Geometry) (image : Image) where
     kept-1 = le-leb _ _ (s .worn b l)
 
     kept-2 : R2 geo image b ≡ true
-    unfolding R2
-    kept-2 =
-        let agrees : mapAgrees geo image b ≡ true =
-        all-of (d geo) (λ i h. beq-same _ _ (s .map b i l h ∙ free-read geo image b i)) in
-        let set : restSet geo image b ≡ true = all-of (32 * k geo - d geo) (λ j h. s .rest b (d geo + j) l (omega arith) (omega arith)) in
-        rw (agrees, set)
+    kept-2 = map-agrees b (λ i h. s .map b i l h) (λ i h m. s .rest b i l h m)
 
     kept-3 : R3 geo image b ≡ true
     unfolding R3
@@ -217,31 +228,25 @@ module _ (geo : Geometry) (image : Image) where
     unfolding R4
     kept-4 = all-of (d geo) (λ i h. ap not (s .proper b i l h))
 
-    blocks-before : (i n : ℕ) → i < d geo → slot geo image b i ≡ Live n → anyBelow b (λ c. liveIn geo image c n) ≡ false
-    blocks-before i n h e =
-        none-of b
-        (λ c m. none-of (d geo)
-        (λ j q. unless _ (λ t. let same = s .once n b c i j l (omega arith) h q e (live-for n _ t) in omega arith)))
-
-    slots-before : (i n : ℕ) → i < d geo → slot geo image b i ≡ Live n → anyBelow i (λ j. isLiveFor n (slot geo image b j)) ≡ false
-    slots-before i n h e =
-        none-of i (λ j q. unless _ (λ t. let same = s .once n b b i j l l h (omega arith) e (live-for n _ t) in omega arith))
-
     kept-5 : R5 geo image b ≡ true
     unfolding R5
-    kept-5 =
-        all-of (d geo) (λ i h. each-live (slot geo image b i) (λ n e. rw (blocks-before i n h e, slots-before i n h e)))
+    kept-5 = once-tests geo (slot geo image) (s .once) b l
 
     kept-7 : (f : Bool) → full geo image b ≡ f → R7 geo image b ≡ true
     unfolding R7
     kept-7 true f =
-        rw f
+        let set = s .closed b l f in
+        rw (f, ne-eqb _ _ (set .0), ne-eqb _ _ (set .1))
         (all-of (d geo)
         (λ i h. each-live (slot geo image b i)
         (λ n e. let in-between = s .bounded b i n l h f e in rw (le-leb _ _ (in-between .0), le-leb _ _ (in-between .1)))))
     kept-7 false f =
         let both = s .unbounded b l f in
         rw (f, eq-eqb _ _ (both .0), eq-eqb _ _ (both .1))
+
+    kept-8 : R8 geo image b ≡ true
+    unfolding R8
+    kept-8 = ap not (none-of (d geo) (λ i h. s .current .none b i l h))
 
   pub facts-sound : Sound geo image → sound geo image ≡ true
   facts-sound s =
@@ -254,6 +259,7 @@ module _ (geo : Geometry) (image : Image) where
         r4 = kept-4 s b l;
         r5 = kept-5 s b l;
         r7 = kept-7 s b l (full geo image b) refl;
+        r8 = kept-8 s b l;
       })
 
   -- what the code asks of every block's map

@@ -14,12 +14,12 @@ use Rattle.geometry.specs.declared.Geometry.{Geometry}
 use Rattle.geometry.specs.Geometry.{d}
 use Rattle.image.specs.declared.Fault.{Fault}
 use Rattle.image.specs.declared.Slot.{Slot}
-use Rattle.image.specs.declared.Slot.the-variants.{Free, Live, Dead, Faulty}
+use Rattle.image.specs.declared.Slot.the-variants.{Free, Live, Dead, Faulty, Superseded}
 use Rattle.image.specs.Words.{Image}
 use Rattle.image.specs.Slots.{slot, isLiveWith, isLiveFor, liveIn}
-use Rattle.image.specs.WellFormed.{R1, R2, R3, R4, R5, R6, R7, liveBefore, soundBlock, sound, wellFormed, brokenRule}
+use Rattle.image.specs.WellFormed.{R1, R2, R3, R4, R5, R6, R7, R8, liveBefore, soundBlock, sound, wellFormed, brokenRule}
 use Rattle.image.specs.Faults.{pair, isBad, firstBadBlock, firstFault, rulesOf, ruleIn, FaultExactlyWhenMalformed, NamedRuleIsBroken, EarlierBlocksAreSound, EarlierRulesHold, R6ComesLast, LiveBeforeToo, R5ChargesTheLaterSlot, NoOtherPairIsFirst}
-use Rattle.image.proofs.Reading.{beq-true}
+use Rattle.image.proofs.Entries.{beq-true}
 use Rattle.image.proofs.Facts.{live-for, live-is-for}
 
 -- ---- one block
@@ -29,27 +29,27 @@ use Rattle.image.proofs.Facts.{live-for, live-is-for}
 abbrev isFirstBroken : Bool → ℕ → (ℕ → Bool) → Bool
 isFirstBroken kept x rule =
     Bool·beq kept (eqb x 0)
-    && (not (eqb x 6) && (leb x 7 && ((not (eqb x 0) implies not (rule x)) && allBelow (cond (eqb x 0) 8 x) (λ q. not (eqb q 6) implies rule q))))
+    && (not (eqb x 6) && (leb x 8 && ((not (eqb x 0) implies not (rule x)) && allBelow (cond (eqb x 0) 9 x) (λ q. not (eqb q 6) implies rule q))))
 
 pub record FirstBroken (kept : Bool) (x : ℕ) (rule : ℕ → Bool) : Type 0 where
   pub all : kept ≡ eqb x 0
   pub own : x ≢ 6
-  pub small : x ≤ 7
+  pub small : x ≤ 8
   pub fails : x ≢ 0 → rule x ≡ false
-  pub before : (q : ℕ) → q < cond (eqb x 0) 8 x → q ≢ 6 → rule q ≡ true
+  pub before : (q : ℕ) → q < cond (eqb x 0) 9 x → q ≢ 6 → rule q ≡ true
 
 first-broken-facts : (kept : Bool) (x : ℕ) (rule : ℕ → Bool) → isFirstBroken kept x rule ≡ true → FirstBroken kept x rule
 first-broken-facts kept x rule t =
     let all = both-pass (Bool·beq kept (eqb x 0)) _ t in
     let own = both-pass (not (eqb x 6)) _ (all .1) in
-    let small = both-pass (leb x 7) _ (own .1) in
+    let small = both-pass (leb x 8) _ (own .1) in
     let last = both-pass (not (eqb x 0) implies not (rule x)) _ (small .1) in
     record {
       all = beq-true kept (eqb x 0) (all .0);
       own = λ e. true≢false (sym (own .0) ∙ ap not (eq-eqb x 6 e));
-      small = leb-true x 7 (small .0);
+      small = leb-true x 8 (small .0);
       fails = λ n. not-true (rule x) (rw (ne-eqb x 0 n) at (last .0));
-      before = λ q l n. rw (ne-eqb q 6 n) at (all-at (cond (eqb x 0) 8 x) _ (last .1) q l);
+      before = λ q l n. rw (ne-eqb q 6 n) at (all-at (cond (eqb x 0) 9 x) _ (last .1) q l);
     }
 
 module _ (geo : Geometry) (image : Image) (b : ℕ) where
@@ -57,7 +57,7 @@ module _ (geo : Geometry) (image : Image) (b : ℕ) where
   unfolding soundBlock brokenRule allBelow
   first-broken =
       first-broken-facts (soundBlock geo image b) (brokenRule geo image b) (ruleIn geo image b)
-      (go (R1 geo image b) (R2 geo image b) (R3 geo image b) (R4 geo image b) (R5 geo image b) (R7 geo image b) refl refl refl refl refl refl)
+      (go (R1 geo image b) (R2 geo image b) (R3 geo image b) (R4 geo image b) (R5 geo image b) (R7 geo image b) (R8 geo image b) refl refl refl refl refl refl refl)
     where
       named :
           (x : ℕ) →
@@ -67,21 +67,23 @@ module _ (geo : Geometry) (image : Image) (b : ℕ) where
       named x e t = ap (λ (y : ℕ). isFirstBroken (soundBlock geo image b) y (ruleIn geo image b)) e ∙ t
 
       go :
-          (r₁ r₂ r₃ r₄ r₅ r₇ : Bool) →
+          (r₁ r₂ r₃ r₄ r₅ r₇ r₈ : Bool) →
           R1 geo image b ≡ r₁ →
           R2 geo image b ≡ r₂ →
           R3 geo image b ≡ r₃ →
           R4 geo image b ≡ r₄ →
           R5 geo image b ≡ r₅ →
           R7 geo image b ≡ r₇ →
+          R8 geo image b ≡ r₈ →
           isFirstBroken (soundBlock geo image b) (brokenRule geo image b) (ruleIn geo image b) ≡ true
-      go false r₂ r₃ r₄ r₅ r₇ e₁ e₂ e₃ e₄ e₅ e₇ = named 1 (rw e₁) (rw e₁)
-      go true false r₃ r₄ r₅ r₇ e₁ e₂ e₃ e₄ e₅ e₇ = named 2 (rw (e₁, e₂)) (rw (e₁, e₂))
-      go true true false r₄ r₅ r₇ e₁ e₂ e₃ e₄ e₅ e₇ = named 3 (rw (e₁, e₂, e₃)) (rw (e₁, e₂, e₃))
-      go true true true false r₅ r₇ e₁ e₂ e₃ e₄ e₅ e₇ = named 4 (rw (e₁, e₂, e₃, e₄)) (rw (e₁, e₂, e₃, e₄))
-      go true true true true false r₇ e₁ e₂ e₃ e₄ e₅ e₇ = named 5 (rw (e₁, e₂, e₃, e₄, e₅)) (rw (e₁, e₂, e₃, e₄, e₅))
-      go true true true true true false e₁ e₂ e₃ e₄ e₅ e₇ = named 7 (rw (e₁, e₂, e₃, e₄, e₅, e₇)) (rw (e₁, e₂, e₃, e₄, e₅, e₇))
-      go true true true true true true e₁ e₂ e₃ e₄ e₅ e₇ = named 0 (rw (e₁, e₂, e₃, e₄, e₅, e₇)) (rw (e₁, e₂, e₃, e₄, e₅, e₇))
+      go false r₂ r₃ r₄ r₅ r₇ r₈ e₁ e₂ e₃ e₄ e₅ e₇ e₈ = named 1 (rw e₁) (rw e₁)
+      go true false r₃ r₄ r₅ r₇ r₈ e₁ e₂ e₃ e₄ e₅ e₇ e₈ = named 2 (rw (e₁, e₂)) (rw (e₁, e₂))
+      go true true false r₄ r₅ r₇ r₈ e₁ e₂ e₃ e₄ e₅ e₇ e₈ = named 3 (rw (e₁, e₂, e₃)) (rw (e₁, e₂, e₃))
+      go true true true false r₅ r₇ r₈ e₁ e₂ e₃ e₄ e₅ e₇ e₈ = named 4 (rw (e₁, e₂, e₃, e₄)) (rw (e₁, e₂, e₃, e₄))
+      go true true true true false r₇ r₈ e₁ e₂ e₃ e₄ e₅ e₇ e₈ = named 5 (rw (e₁, e₂, e₃, e₄, e₅)) (rw (e₁, e₂, e₃, e₄, e₅))
+      go true true true true true false r₈ e₁ e₂ e₃ e₄ e₅ e₇ e₈ = named 7 (rw (e₁, e₂, e₃, e₄, e₅, e₇)) (rw (e₁, e₂, e₃, e₄, e₅, e₇))
+      go true true true true true true false e₁ e₂ e₃ e₄ e₅ e₇ e₈ = named 8 (rw (e₁, e₂, e₃, e₄, e₅, e₇, e₈)) (rw (e₁, e₂, e₃, e₄, e₅, e₇, e₈))
+      go true true true true true true true e₁ e₂ e₃ e₄ e₅ e₇ e₈ = named 0 (rw (e₁, e₂, e₃, e₄, e₅, e₇, e₈)) (rw (e₁, e₂, e₃, e₄, e₅, e₇, e₈))
 
 -- ---- the three ways that a check can end
 module _ (geo : Geometry) (image : Image) where
@@ -182,7 +184,7 @@ named-rule-is-broken geo image q = go (ends geo image)
     go :
         Ends geo image →
         (1 ≤ firstFault geo image .rule)
-        × (firstFault geo image .rule ≤ 7)
+        × (firstFault geo image .rule ≤ 8)
         × (ruleIn geo image (firstFault geo image .block) (firstFault geo image .rule) ≡ false)
     go (in-block b l sounds breaks e w) =
         let own = first-broken geo image b in
@@ -236,11 +238,12 @@ r5-charges-the-later-slot geo image b = (charged, breaks)
     live-with f (Live n) t = (n, refl, t)
     live-with f Dead t = absurd (false≢true t)
     live-with f Faulty t = absurd (false≢true t)
+    live-with f Superseded t = absurd (false≢true t)
 
     charged : R5 geo image b ≡ false → LiveBeforeToo geo image b
     charged r =
         let (i, l, fails) = all-fails (d geo) _ r in
-        let (n, live, seen) = live-with (liveBefore geo image b i) (slot geo image b i) (not-false _ fails) in
+        let (n, live, seen) = live-with (liveBefore geo (slot geo image) b i) (slot geo image b i) (not-false _ fails) in
         ⊎-elim
         (λ t.
         let (c, before, there) = any-at b _ t in
@@ -253,15 +256,15 @@ r5-charges-the-later-slot geo image b = (charged, breaks)
 
     breaks : LiveBeforeToo geo image b → R5 geo image b ≡ false
     breaks (n, i, c, j, l, k, live, same, before) =
-        not-all (d geo) (λ i. not (isLiveWith (liveBefore geo image b i) (slot geo image b i))) l
+        not-all (d geo) (λ i. not (isLiveWith (liveBefore geo (slot geo image) b i) (slot geo image b i))) l
         (rw live (ap not (⊎-elim earlier here before)))
       where
-        earlier : c < b → liveBefore geo image b i n ≡ true
+        earlier : c < b → liveBefore geo (slot geo image) b i n ≡ true
         earlier h =
             ap (_|| anyBelow i (λ q. isLiveFor n (slot geo image b q)))
             (any-of b (λ a. liveIn geo image a n) h (any-of (d geo) (λ q. isLiveFor n (slot geo image c q)) k (live-is-for same)))
 
-        here : (c ≡ b) × (j < i) → liveBefore geo image b i n ≡ true
+        here : (c ≡ b) × (j < i) → liveBefore geo (slot geo image) b i n ≡ true
         here (e, h) =
             ap (anyBelow b (λ a. liveIn geo image a n) ||_) (any-of i (λ q. isLiveFor n (slot geo image b q)) h (live-is-for (rw e at same)))
             ∙ or-true (anyBelow b (λ a. liveIn geo image a n))
@@ -279,7 +282,7 @@ no-other-pair-is-first geo image b r place fails sounds before = ⊎-elim of-blo
     of-block : (b < geo .blocks) × (r ≢ 6) → firstFault geo image ≡ pair b r
     of-block (l, own) =
         let first = first-broken geo image b in
-        let no-rule : 8 ≤ r → ⊥ = λ h. true≢false (sym (List·getD-eq-default (rulesOf geo image b) true h) ∙ fails) in
+        let no-rule : 9 ≤ r → ⊥ = λ h. true≢false (sym (List·getD-eq-default (rulesOf geo image b) true h) ∙ fails) in
         let breaks : brokenRule geo image b ≢ 0 = λ z. true≢false (sym (first .before r (rw z (omega arith)) own) ∙ fails) in
         let not-before : brokenRule geo image b < r → ⊥ = λ h. true≢false (sym (before _ l h (first .own)) ∙ first .fails breaks) in
         let not-after : r < brokenRule geo image b → ⊥ =

@@ -1,4 +1,5 @@
 pub mod Entries
+pub mod Own
 pub mod Reading
 pub mod Facts
 pub mod Finding

@@ -1,37 +1,28 @@
 -- Where the code reads, and what the counts say of a block: laws that the functions of this crate share. Assumes nothing.
 use mathlib.Core.Path.{_≡_, refl, sym, ap, ap₂, _∙_}
-use mathlib.Core.Bool.{Bool, true, false, not, Bool·beq, Bool·not-not, _&&_}
-use Prim.Native.Nat.{ℕ, _+_, _*_, _-_, _<_, _≤_}
+use mathlib.Core.Bool.{Bool, true, false, not, Bool·not-not, _&&_}
+use Prim.Native.Nat.{ℕ, _+_, _*_, _-_, _%_, _<_, _≤_}
 use native.Mathlib.Omega.{arith}
 use lib.Dec.{eqb}
 use lib.ListN.{length}
 use borrow.Author.Tests.{eq-eqb, ne-eqb}
-use Rattle.ranges.specs.Range.{anyBelow, firstBelow}
+use Rattle.ranges.specs.Range.{_implies_, anyBelow, firstBelow}
 use Rattle.ranges.proofs.Tests.{both-pass, all-at, none-at}
 use Rattle.ranges.proofs.Sums.{all-count, any-count}
 use Rattle.ranges.proofs.Searches.{best-any, best-none}
-use Rattle.bits.specs.Word.{ones}
+use Rattle.bits.specs.Word.{isSet}
 use Rattle.geometry.specs.declared.Geometry.{Geometry}
 use Rattle.geometry.specs.Geometry.{d, k, blockLength, sectorWords}
 use Rattle.geometry.specs.Places.{place, entryWord, mapWord, contentWord}
 use Rattle.geometry.proofs.Laws.{block-inside, place-inside, map-in-block, entry-in-block, content-word-inside}
 use Rattle.image.specs.declared.Slot.{Slot}
-use Rattle.image.specs.Words.{Image, Shaped, word, mapBit, entry}
-use Rattle.image.specs.Slots.{slotOf, slot, isFree, isFreeEntry}
+use Rattle.image.specs.declared.Slot.the-variants.{Free, Dead}
+use Rattle.image.specs.Words.{Image, Shaped, word, freeMap, mapBit, entry}
+use Rattle.image.specs.Slots.{slotOf, ownSlot, slot, isFree, isFreeEntry}
 use Rattle.image.specs.Blocks.{blank, full, isOpen, freeSlots, lowestFree}
-use Rattle.image.specs.WellFormed.{mapAgrees, restSet, R2}
-use Rattle.image.proofs.Entries.{free-test}
-
--- two tests that are found to be the same
-pub beq-true : (x y : Bool) → Bool·beq x y ≡ true → x ≡ y
-beq-true true true e = refl
-beq-true true false e = sym e
-beq-true false true e = e
-beq-true false false e = refl
-
--- slot j of a block by the word that the code reads, where `base` is the place of the block's first entry
-abbrev pub slotFrom : Image → ℕ → ℕ → ℕ → Slot
-slotFrom image logical base j = slotOf logical (word image (base + j))
+use Rattle.image.specs.WellFormed.{mapAgrees, restSet, R2, NoneSuperseded}
+use Rattle.image.proofs.Entries.{any-bit}
+use Rattle.image.proofs.Own.{free-read, each-own}
 
 module _ (geo : Geometry) (image : Image) where
   -- block b ends within the image
@@ -53,27 +44,43 @@ module _ (geo : Geometry) (image : Image) where
   contents-inside shaped l h =
       omega (arith, word-inside shaped l (content-word-inside geo (shaped .limits) {j = 127} h (omega arith)))
 
-  -- a slot by the word that the code reads: p is the place of its entry, however it was added up
-  pub slot-read : (b i p : ℕ) → p ≡ place geo b (entryWord geo i) → slotOf (geo .logical) (word image p) ≡ slot geo image b i
-  unfolding slot entry
-  slot-read b i p e = ap (λ (q : ℕ). slotOf (geo .logical) (word image q)) e
+  -- a slot's own kind by the words that the code reads: p and m are the places of its entry and its map word, however they were added up
+  pub own-read :
+      (b i p m : ℕ) →
+      p ≡ place geo b (entryWord geo i) →
+      m ≡ place geo b (mapWord i) →
+      slotOf (geo .logical) (isSet (word image m) (i % 32)) (word image p) ≡ ownSlot geo image b i
+  unfolding ownSlot entry freeMap
+  own-read b i p m e f = rw (e, f)
 
-  -- a free slot by its entry
-  pub free-read : (b i : ℕ) → isFree (slot geo image b i) ≡ isFreeEntry (entry geo image b i)
-  unfolding slot
-  free-read b i = free-test (geo .logical) (entry geo image b i)
-
-  -- by the word that the code reads
-  pub free-at : (b i p : ℕ) → p ≡ place geo b (entryWord geo i) → isFree (slot geo image b i) ≡ eqb (word image p) ones
-  unfolding entry
-  free-at b i p e = free-read b i ∙ sym (ap (λ (q : ℕ). isFreeEntry (word image q)) e)
+  -- a test that does not tell a free slot from a dead one, by the entry that the code reads alone: p is its place
+  pub by-entry :
+      NoneSuperseded geo image →
+      (f : Slot → Bool) →
+      f Free ≡ f Dead →
+      {b i : ℕ} →
+      b < geo .blocks →
+      i < d geo →
+      (p : ℕ) →
+      p ≡ place geo b (entryWord geo i) →
+      f (slotOf (geo .logical) false (word image p)) ≡ f (slot geo image b i)
+  by-entry none f same {b} {i} l h p e =
+      let map = place geo b (mapWord i) in
+      any-bit f same (geo .logical) false (isSet (word image map) (i % 32)) (word image p)
+      ∙ ap f (own-read b i p map e refl ∙ sym (each-own none l h))
 
   -- R2: the map's bit of a slot says whether it is free, and the bits from d on are set
   pub map-says : (b : ℕ) → R2 geo image b ≡ true → (i : ℕ) → i < d geo → mapBit geo image b i ≡ isFree (slot geo image b i)
   unfolding R2
   map-says b r i l =
-      beq-true (mapBit geo image b i) (isFreeEntry (entry geo image b i)) (all-at (d geo) _ (both-pass (mapAgrees geo image b) (restSet geo image b) r .0) i l)
-      ∙ sym (free-read b i)
+      go (mapBit geo image b i) (isFreeEntry (entry geo image b i)) (all-at (d geo) _ (both-pass (mapAgrees geo image b) (restSet geo image b) r .0) i l)
+      ∙ sym (free-read geo image b i)
+    where
+      go : (m f : Bool) → (m implies f) ≡ true → m ≡ (f && m)
+      go true true e = refl
+      go true false e = sym e
+      go false true e = refl
+      go false false e = refl
 
   pub map-rest : (b : ℕ) → R2 geo image b ≡ true → (i : ℕ) → d geo ≤ i → i < 32 * k geo → mapBit geo image b i ≡ true
   unfolding R2

@@ -13,7 +13,7 @@ use Rattle.image.specs.declared.Fault.{Fault}
 use Rattle.image.specs.declared.Slot.the-variants.{Live}
 use Rattle.image.specs.Words.{Image}
 use Rattle.image.specs.Slots.{slot}
-use Rattle.image.specs.WellFormed.{R1, R2, R3, R4, R5, R6, R7, soundBlock, sound, wellFormed, brokenRule}
+use Rattle.image.specs.WellFormed.{R1, R2, R3, R4, R5, R6, R7, R8, soundBlock, sound, wellFormed, brokenRule}
 
 -- a pair: a block, and a rule by its number
 abbrev pub pair : ℕ → ℕ → Fault
@@ -37,7 +37,17 @@ module _ (geo : Geometry) (image : Image) where
 
   -- the rules by their numbers, of block b: none has the number 0, and R6 is the whole image's, whatever b is
   abbrev pub rulesOf : ℕ → List Bool
-  rulesOf b = true ∷ R1 geo image b ∷ R2 geo image b ∷ R3 geo image b ∷ R4 geo image b ∷ R5 geo image b ∷ R6 geo image ∷ R7 geo image b ∷ []
+  rulesOf b =
+      true
+      ∷ R1 geo image b
+      ∷ R2 geo image b
+      ∷ R3 geo image b
+      ∷ R4 geo image b
+      ∷ R5 geo image b
+      ∷ R6 geo image
+      ∷ R7 geo image b
+      ∷ R8 geo image b
+      ∷ []
 
   abbrev pub ruleIn : ℕ → ℕ → Bool
   ruleIn b r = getD (rulesOf b) r true
@@ -50,20 +60,20 @@ FaultExactlyWhenMalformed =
     (geo : Geometry) (image : Image) →
     ((firstFault geo image .rule ≢ 0) ↔ (wellFormed geo image ≡ false)) × (wellFormed geo image ≡ true → firstFault geo image ≡ pair 0 0)
 
--- The named rule is one of the seven, and it is broken in the named block.
+-- The named rule is one of the eight, and it is broken in the named block.
 abbrev pub NamedRuleIsBroken : Type 0
 NamedRuleIsBroken =
     (geo : Geometry) (image : Image) →
     wellFormed geo image ≡ false →
     (1 ≤ firstFault geo image .rule)
-    × (firstFault geo image .rule ≤ 7)
+    × (firstFault geo image .rule ≤ 8)
     × (ruleIn geo image (firstFault geo image .block) (firstFault geo image .rule) ≡ false)
 
 -- Every block before the named one keeps all its rules.
 abbrev pub EarlierBlocksAreSound : Type 0
 EarlierBlocksAreSound = (geo : Geometry) (image : Image) (c : ℕ) → c < firstFault geo image .block → soundBlock geo image c ≡ true
 
--- In the named block every rule before the named one holds: blocks are asked for R1 to R5 and R7, in the order of these numbers.
+-- In the named block every rule before the named one holds: blocks are asked for R1 to R5, R7 and R8, in the order of these numbers.
 abbrev pub EarlierRulesHold : Type 0
 EarlierRulesHold =
     (geo : Geometry) (image : Image) (q : ℕ) →
@@ -72,7 +82,7 @@ EarlierRulesHold =
     q ≢ 6 →
     ruleIn geo image (firstFault geo image .block) q ≡ true
 
--- R6 is asked last: it is named exactly with B, and only where every block keeps its six rules; any other rule is named with a block that is there.
+-- R6 is asked last: it is named exactly with B, and only where every block keeps its seven rules; any other rule is named with a block that is there.
 abbrev pub R6ComesLast : Type 0
 R6ComesLast =
     (geo : Geometry) (image : Image) →

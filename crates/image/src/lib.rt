@@ -2,12 +2,13 @@
 // Nothing here changes a word.
 pub mod slots;
 
-// What an entry says of its slot.
+// What a slot is. Superseded (K4) it is by the other entries of the image: its own never say so.
 pub enum Slot {
     Free,
     Live(u32),
     Dead,
     Faulty,
+    Superseded,
 }
 
 // Where a number is live: block and slot, or that it is live nowhere.

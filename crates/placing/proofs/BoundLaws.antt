@@ -1,5 +1,4 @@
--- The first and the last index at which a test passes, when it passes at one index more; that a live number is below L; and how
--- many words a placing and the copying of a reclaim program at most. Assumes nothing.
+-- The first and the last index at which a test passes, when it passes at one index more; and how many words a placing and the copying of a reclaim program at most. Assumes nothing.
 use mathlib.Core.Path.{_≡_, refl, sym, ap, _∙_}
 use mathlib.Core.List.{List}
 use mathlib.Core.Bool.{Bool, true, false, _||_, or-true}
@@ -13,11 +12,10 @@ use Rattle.ranges.proofs.Sums.{one-if-le}
 use Rattle.ranges.proofs.Searches.{best-passes, best-some, first-before, first-is, last-after, last-is}
 use Rattle.geometry.specs.declared.Geometry.{Geometry}
 use Rattle.image.specs.declared.Slot.{Slot}
-use Rattle.image.specs.declared.Slot.the-variants.{Free, Live, Dead, Faulty}
+use Rattle.image.specs.declared.Slot.the-variants.{Free, Live, Dead, Faulty, Superseded}
 use Rattle.image.specs.Slots.{slot, find, isAt}
-use Rattle.image.specs.Words.{Image, entry, contents}
+use Rattle.image.specs.Words.{Image, contents}
 use Rattle.image.specs.Blocks.{full}
-use Rattle.image.proofs.Entries.{live-parts}
 use Rattle.flash.specs.Steps.{run, wordsIn}
 use Rattle.flash.specs.Placing.{fillsSlot, placing}
 use Rattle.flash.specs.Writing.{Copied, copiedSlot, copying}
@@ -72,11 +70,6 @@ module _ (m : ℕ) (f : ℕ → Bool) {n : ℕ} (l : n < m) where
           passes-old (ap f same ∙ best-passes (λ i r. true) m f found)
       go found (no h) = passes-new (omega arith)
 
--- the number of a live slot is below L, whatever its word
-pub live-number : (geo : Geometry) (image : Image) (b i n : ℕ) → slot geo image b i ≡ Live n → n < geo .logical
-unfolding slot
-live-number geo image b i n e = live-parts (geo .logical) (entry geo image b i) n e .2
-
 -- a placing programs at most 135 words (FORMAT.md, Costs)
 pub placing-most : (geo : Geometry) (image : Image) (n : ℕ) (ws : List ℕ) (b i : ℕ) → wordsIn (placing geo image n ws b i) ≤ 135
 placing-most geo image n ws b i =
@@ -108,3 +101,4 @@ copying-most geo image v t (suc m) =
         omega (arith, words-append (before .steps) (placing geo now n ws t (before .taken)), placing-most geo now n ws t (before .taken))
     go before now h Dead = omega arith
     go before now h Faulty = omega arith
+    go before now h Superseded = omega arith

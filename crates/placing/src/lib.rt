@@ -1,17 +1,18 @@
 // Placing a sector in a slot, (a) to (g), and releasing one.
-ghost use mathlib.Core.Bool.{not, true};
+ghost use mathlib.Core.Bool.{true};
 ghost use mathlib.Core.Path.{_≡_};
 ghost use Prim.Native.Nat.{_<_};
 ghost use lib.ListN.{length};
 ghost use Rattle.geometry.specs.Geometry.{d, sectorWords};
 ghost use Rattle.image.specs.declared.Found.the-variants.{At};
+ghost use Rattle.image.specs.declared.Slot.the-variants.{Free};
 ghost use Rattle.image.specs.Words.{Shaped};
-ghost use Rattle.image.specs.Slots.{find};
-ghost use Rattle.image.specs.Blocks.{full};
-ghost use Rattle.image.specs.WellFormed.{sound};
+ghost use Rattle.image.specs.Slots.{slot, find};
+ghost use Rattle.image.specs.WellFormed.{R2, sound, NoneSuperseded};
 ghost use Rattle.tables.specs.Tables.{noted};
 ghost use Rattle.flash.specs.Steps.{run, wordsIn};
 ghost use Rattle.flash.specs.Placing.{InImage, entryAt, programsEntry, takesSlot, storesContents, liveBounds, closesBlock, placing, releasing};
+use blocks::lowest_free;
 use flash::LiveBounds;
 use flash::steps::program;
 use geometry::Geometry;
@@ -80,9 +81,10 @@ fn store_contents(image: &mut [u32], geo: Geometry, b: usize, i: usize, words: &
     }
 }
 
-// The least and the greatest number live in block b.
+// The least and the greatest number live in block b. Whether an entry is live, the map bit does not say.
 fn live_bounds(image: &[u32], geo: Geometry, b: usize) -> LiveBounds
     requires { ⌜ Shaped geo (now image) ⌝ }
+    requires { ⌜ NoneSuperseded geo (now image) ⌝ }
     requires { ⌜ b < geo .blocks ⌝ }
     ensures { λ r. ⌜ r ≡ liveBounds geo (now (image .entry)) b ⌝ }
 {
@@ -92,7 +94,7 @@ fn live_bounds(image: &[u32], geo: Geometry, b: usize) -> LiveBounds
     let mut least = logical;
     let mut greatest = logical;
     for i in 0..d {
-        match slot_of(logical, image[entries + i]) {
+        match slot_of(logical, false, image[entries + i]) {
             Slot::Live(n) => {
                 if least == logical {
                     greatest = n;
@@ -106,36 +108,23 @@ fn live_bounds(image: &[u32], geo: Geometry, b: usize) -> LiveBounds
             Slot::Free => {}
             Slot::Dead => {}
             Slot::Faulty => {}
+            Slot::Superseded => {}
         }
     }
     LiveBounds { least, greatest }
 }
 
-// Whether some slot of block b is free.
-fn has_free(image: &[u32], geo: Geometry, b: usize) -> bool
-    requires { ⌜ Shaped geo (now image) ⌝ }
-    requires { ⌜ b < geo .blocks ⌝ }
-    ensures { λ r. ⌜ r ≡ not (full geo (now (image .entry)) b) ⌝ }
-{
-    let d = geo.d();
-    let entries = geo.entries_start(b);
-    for i in 0..d {
-        if image[entries + i] == 0xFFFF_FFFF {
-            return true;
-        }
-    }
-    false
-}
-
 // (g): words 1 and 2, if the block has no free slot left. Returns how many words were programmed.
 fn close_block(image: &mut [u32], geo: Geometry, b: usize) -> u32
     requires { ⌜ Shaped geo (now image) ⌝ }
+    requires { ⌜ NoneSuperseded geo (now image) ⌝ }
     requires { ⌜ b < geo .blocks ⌝ }
+    requires { ⌜ R2 geo (now image) b ≡ true ⌝ }
     ensures { λ r. ⌜ r ≡ wordsIn (closesBlock geo (now (image .entry)) b) ⌝ }
     ensures { λ r. ⌜ now (image .exit) ≡ run geo (now (image .entry)) (closesBlock geo (now (image .entry)) b) ⌝ }
 {
     let start = geo.start(b);
-    if has_free(image, geo, b) {
+    if lowest_free(image, geo, b) != geo.d() {
         return 0;
     }
     let live = live_bounds(image, geo, b);
@@ -156,10 +145,12 @@ pub fn place_over(
     old: Found,
 ) -> u32
     requires { ⌜ Shaped geo (now image) ⌝ }
+    requires { ⌜ sound geo (now image) ≡ true ⌝ }
     requires { ⌜ n < geo .logical ⌝ }
     requires { ⌜ length (now words) ≡ sectorWords ⌝ }
     requires { ⌜ b < geo .blocks ⌝ }
     requires { ⌜ i < d geo ⌝ }
+    requires { ⌜ slot geo (now image) b i ≡ Free ⌝ }
     requires { ⌜ old ≡ find geo (now image) n ⌝ }
     ensures { λ r. ⌜ r ≡ wordsIn (placing geo (now (image .entry)) n (now (words .entry)) b i) ⌝ }
     ensures { λ r. ⌜ now (image .exit) ≡ run geo (now (image .entry)) (placing geo (now (image .entry)) n (now (words .entry)) b i) ⌝ }
@@ -191,6 +182,7 @@ pub fn place(
     requires { ⌜ length (now words) ≡ sectorWords ⌝ }
     requires { ⌜ b < geo .blocks ⌝ }
     requires { ⌜ i < d geo ⌝ }
+    requires { ⌜ slot geo (now image) b i ≡ Free ⌝ }
     ensures { λ r. ⌜ r ≡ wordsIn (placing geo (now (image .entry)) n (now (words .entry)) b i) ⌝ }
     ensures { λ r. ⌜ now (image .exit) ≡ run geo (now (image .entry)) (placing geo (now (image .entry)) n (now (words .entry)) b i) ⌝ }
     ensures { λ r. ⌜ now (table .exit) ≡ noted geo (now (table .entry)) n (At b i) ⌝ }

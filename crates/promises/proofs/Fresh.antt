@@ -1,7 +1,7 @@
 -- What a format leaves: a well-formed image with an empty map, every slot free and no block erased. Assumes nothing.
 use mathlib.Core.Path.{_≡_, refl, sym, ap, _∙_}
 use mathlib.Core.Logic.{_≢_}
-use mathlib.Core.Bool.{true, false, not}
+use mathlib.Core.Bool.{true, false, not, true≢false}
 use mathlib.Core.Option.{none}
 use Prim.Native.Nat.{ℕ, zero, suc, _*_, _%_, _^_, _<_, _≤_}
 use native.Mathlib.Decide.{decLt, ℕ-discrete}
@@ -19,15 +19,16 @@ use Rattle.geometry.specs.Places.{place, eraseWord, leastWord, greatestWord, ma
 use Rattle.geometry.proofs.Laws.{d-positive, place-inside, management-inside, management-fits, map-word-inside, map-covers, entry-word-inside, content-word-inside, content-word-after}
 use Rattle.image.specs.declared.Slot.the-variants.{Free}
 use Rattle.image.specs.Words.{Image, Shaped, Words32, word, eraseCount, leastMapped, greatestMapped, freeMap, mapBit, entry}
-use Rattle.image.specs.Slots.{slotOf, slot, isFree, isFaulty, mapOf}
+use Rattle.image.specs.Slots.{ownSlot, slot, isFree, isFaulty, mapOf}
 use Rattle.image.specs.Blocks.{blank, full, freeSlots}
-use Rattle.image.specs.WellFormed.{R6, sound, wellFormed}
+use Rattle.image.specs.WellFormed.{R6, sound, wellFormed, NoneSuperseded}
 use Rattle.image.proofs.Entries.{free-slot}
+use Rattle.image.proofs.Own.{none-superseded, each-own}
 use Rattle.image.proofs.Facts.{Sound, facts-formed}
 use Rattle.image.proofs.Finding.{none-found, map-nothing}
 use Rattle.image.proofs.Places.{apart, contents-at}
 use Rattle.flash.proofs.Filling.{Ready}
-use Rattle.flash.proofs.Kept.{free-not-live}
+use Rattle.flash.proofs.Changed.{free-not-live}
 use Rattle.calls.specs.Calls.{countsZeroed, fresh}
 
 module _ (geo : Geometry) (within : Limits geo) where
@@ -87,13 +88,6 @@ module _ (geo : Geometry) (within : Limits geo) where
   unfolding fresh eraseCount
   fresh-count b l = zeroed-count (geo .blocks) b l (omega arith)
 
-  pub fresh-free : (b i : ℕ) → b < geo .blocks → i < d geo → slot geo made b i ≡ Free
-  unfolding slot entry
-  fresh-free b i l h =
-      ap (slotOf (geo .logical))
-      (other-word b (entryWord geo i) l (management-inside geo within (entry-word-inside geo within h)) (λ e. omega arith))
-      ∙ free-slot (geo .logical) ones (omega arith) refl
-
   map-set : (b j : ℕ) → b < geo .blocks → j < 32 * k geo → mapBit geo made b j ≡ true
   unfolding freeMap
   map-set b j l h =
@@ -102,6 +96,19 @@ module _ (geo : Geometry) (within : Limits geo) where
       (management-inside geo within (omega (arith, map-word-inside geo within {i = j} h, management-fits geo within)))
       (λ e. omega arith))
       ∙ set-bit ones (j % 32) (ones-bit 32 (j % 32) (omega arith))
+
+  own-free : (b i : ℕ) → b < geo .blocks → i < d geo → ownSlot geo made b i ≡ Free
+  unfolding ownSlot entry
+  own-free b i l h =
+      free-slot (geo .logical) (mapBit geo made b i) (entry geo made b i)
+      (other-word b (entryWord geo i) l (management-inside geo within (entry-word-inside geo within h)) (λ e. omega arith))
+      ∙ rw (map-set b i l (omega (arith, map-covers geo within)))
+
+  current : NoneSuperseded geo made
+  current = none-superseded geo made (λ n b c i j l l' h h' e e'. absurd (free-not-live (own-free b i l h) e))
+
+  pub fresh-free : (b i : ℕ) → b < geo .blocks → i < d geo → slot geo made b i ≡ Free
+  fresh-free b i l h = each-own current l h ∙ own-free b i l h
 
   not-full : (b : ℕ) → b < geo .blocks → full geo made b ≡ false
   unfolding full
@@ -127,6 +134,8 @@ module _ (geo : Geometry) (within : Limits geo) where
         once = λ n b c i j l l' h h' e e'. absurd (free-not-live (fresh-free b i l h) e);
         unbounded = λ b l f. bounds b l;
         bounded = λ b i n l h f e. absurd (free-not-live (fresh-free b i l h) e);
+        closed = λ b l f. absurd (true≢false (sym f ∙ not-full b l));
+        current = current;
       }
 
   -- words of 32 bits

@@ -16,6 +16,7 @@ use Rattle.image.specs.Words.{Image, contents}
 use Rattle.image.specs.Slots.{find, mapOf}
 use Rattle.image.specs.WellFormed.{wellFormed}
 use Rattle.image.proofs.Capacity.{image-parts, live-at-most}
+use Rattle.image.proofs.Own.{each-own}
 use Rattle.image.proofs.Facts.{sound-facts, formed-sound, facts-formed}
 use Rattle.image.proofs.Finding.{live-found, map-at, map-nothing}
 use Rattle.flash.specs.Steps.{run, programsWord}
@@ -28,7 +29,7 @@ use Rattle.answers.proofs.Acceptance.{if-accepted, if-refused, accepted?}
 use Rattle.calls.specs.Refusals.{checkAnswer, readAnswer, writeAnswer, releaseAnswer}
 use Rattle.calls.specs.Calls.{fresh, formatted, totalsOf, noTotals, reported, readBuffer, writeSteps, releaseSteps}
 use Rattle.promises.specs.Runs.{ran, started}
-use Rattle.promises.specs.Properties.{TheOneSlot, FormatMakesAFreshImage, RunsStayWellFormed, ReportAddsUp, OthersReadAsBefore, UnusedWordsAreNotProgrammed, PlacingCosts, WearAndFreeSlots}
+use Rattle.promises.specs.Properties.{TheOneSlot, EachSlotByItself, FormatMakesAFreshImage, RunsStayWellFormed, ReportAddsUp, OthersReadAsBefore, UnusedWordsAreNotProgrammed, PlacingCosts, WearAndFreeSlots}
 use Rattle.promises.proofs.Accepted.{check-accepted, format-accepted, write-accepted, write-steps, write-wrote, release-accepted, release-steps, release-blank, release-released}
 use Rattle.promises.proofs.Fresh.{fresh-ready, fresh-blank, fresh-formed, fresh-map, fresh-frees, fresh-worn}
 use Rattle.promises.proofs.Running.{Good, runs}
@@ -38,6 +39,11 @@ pub the-one-slot : TheOneSlot
 the-one-slot geo image n b c i j checked l l' h h' e =
     let s = sound-facts geo image (formed-sound geo image (check-accepted geo image checked .1)) in
     (map-at geo image n b i (live-found geo image s n b i (record { block = l; slot-of = h; live = e })), s .once n b c i j l l' h h' e)
+
+pub each-slot-by-itself : EachSlotByItself
+each-slot-by-itself geo image b i checked l h =
+    let none = sound-facts geo image (formed-sound geo image (check-accepted geo image checked .1)) .current in
+    (none .none b i l h, each-own none l h)
 
 pub format-makes-a-fresh-image : FormatMakesAFreshImage
 unfolding formatted
@@ -69,11 +75,10 @@ runs-stay-well-formed geo image calls handed = (
 
 pub report-adds-up : ReportAddsUp
 unfolding reported
-report-adds-up geo image words accepted =
-    let checked = check-accepted geo image accepted in
-    let ready = formed-ready geo image (checked .0) words (checked .1) .0 in
+report-adds-up geo image accepted =
+    let facts = sound-facts geo image (formed-sound geo image (check-accepted geo image accepted .1)) in
     rw (if-accepted (totalsOf geo image) (noTotals (checkAnswer geo image)) accepted)
-    (image-parts geo image (ready .sound), live-at-most geo image (ready .sound) words)
+    (image-parts geo image facts, live-at-most geo image facts)
 
 -- two images of one length, both well formed, that map m alike read m alike
 read-same :

@@ -1,5 +1,6 @@
--- What else the definitions promise, as statements: the map is well defined, what a format makes, that a run leaves the image well formed, what a
--- report adds up to, what a placing costs and what a write does to free slots and wear. proofs/Properties.antt proves each under the name in small letters.
+-- What else the definitions promise, as statements: the map is well defined, each slot speaks for itself, what a format makes, that a run leaves
+-- the image well formed, what a report adds up to, what a placing costs and what a write does to free slots and wear. proofs/Properties.antt proves
+-- each under the name in small letters.
 use mathlib.Core.Path.{_≡_}
 use mathlib.Core.Logic.{_≢_}
 use mathlib.Core.List.{List}
@@ -12,7 +13,7 @@ use Rattle.geometry.specs.Geometry.{d, g}
 use Rattle.geometry.specs.Places.{place, Unused}
 use Rattle.image.specs.declared.Slot.the-variants.{Live}
 use Rattle.image.specs.Words.{Image, Words32, eraseCount, contents}
-use Rattle.image.specs.Slots.{slot, find, mapOf, isMapped}
+use Rattle.image.specs.Slots.{superseded, ownSlot, slot, find, mapOf, isMapped}
 use Rattle.image.specs.Blocks.{full, freeSlots, deadSlots, victim}
 use Rattle.image.specs.WellFormed.{wellFormed}
 use Rattle.flash.specs.Steps.{run, wordsIn, programsWord}
@@ -33,6 +34,15 @@ TheOneSlot =
     j < d geo →
     slot geo image b i ≡ Live n →
     (mapOf geo image n ≡ some (contents geo image b i)) × (slot geo image c j ≡ Live n → (b ≡ c) × (i ≡ j))
+
+-- Where a check accepts the image, no slot is superseded (K4): each is what its own entry and its own map bit say.
+abbrev pub EachSlotByItself : Type 0
+EachSlotByItself =
+    (geo : Geometry) (image : Image) (b i : ℕ) →
+    checkAnswer geo image ≡ Accepted →
+    b < geo .blocks →
+    i < d geo →
+    (superseded geo image b i ≡ false) × (slot geo image b i ≡ ownSlot geo image b i)
 
 -- Format makes an image that is well formed, with an empty map, B·d free slots and erase sum 0.
 abbrev pub FormatMakesAFreshImage : Type 0
@@ -56,7 +66,6 @@ RunsStayWellFormed =
 abbrev pub ReportAddsUp : Type 0
 ReportAddsUp =
     (geo : Geometry) (image : Image) →
-    Words32 image →
     checkAnswer geo image ≡ Accepted →
     (reported geo image .mapped + reported geo image .free + reported geo image .dead ≡ geo .blocks * d geo)
     × (reported geo image .mapped ≤ geo .logical)

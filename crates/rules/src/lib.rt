@@ -1,19 +1,20 @@
-// Each rule of a block by itself: R1 to R4 and R7, and which of R2 to R5 is the first that a block breaks.
-ghost use mathlib.Core.Bool.{true, false, not, _&&_};
+// Each rule of a block by itself, as far as the block alone decides it: R1 to R4, and R7 by the slots' own kinds. And the marks that R5 is
+// checked by: a bit for each number.
+ghost use mathlib.Core.Bool.{Bool, true, not, _||_};
 ghost use mathlib.Core.Path.{_≡_};
-ghost use Prim.Native.Nat.{_<_};
-ghost use lib.Dec.{leb};
+ghost use Prim.Native.Nat.{ℕ, _*_, _<_};
+ghost use lib.Dec.{eqb};
 ghost use lib.ListN.{length};
-ghost use Rattle.ranges.specs.Range.{allBelow};
 ghost use Rattle.geometry.specs.Geometry.{d, sectorWords};
-ghost use Rattle.image.specs.Words.{Shaped, contents};
-ghost use Rattle.image.specs.Slots.{slotOf, slot, isLiveWith};
-ghost use Rattle.image.specs.WellFormed.{allOnes, mapAgrees, restSet, outOfBounds, R1, R2, R3, R4, R5, R7, brokenRule};
+ghost use Rattle.image.specs.Words.{Shaped, leastMapped, greatestMapped, contents};
+ghost use Rattle.image.specs.Slots.{slotOf, ownSlot, isLiveWith};
+ghost use Rattle.image.specs.WellFormed.{outside, allOnes, mapAgrees, restSet, noneWith, boundsKept, R1, R2, R3, R4};
+ghost use Rattle.rules.specs.Marks.{markWords, seen};
 use blocks::erase_count;
 use blocks::lowest_free;
 use geometry::Geometry;
 use image::Slot;
-use image::slots::slot_of;
+use image::slots::own_slot;
 
 // Whether every word of a sector is all ones.
 fn all_ones(sector: &[u32]) -> bool
@@ -36,7 +37,7 @@ pub fn rule1(image: &[u32], geo: Geometry, b: usize) -> bool
     erase_count(image, geo, b) <= 1_000_000
 }
 
-// R2, of the slots: the map has a bit set for each free entry and for no other.
+// R2, of the slots: the map has no bit set for an entry in use.
 fn map_agrees(image: &[u32], geo: Geometry, b: usize) -> bool
     requires { ⌜ Shaped geo (now image) ⌝ }
     requires { ⌜ b < geo .blocks ⌝ }
@@ -47,8 +48,8 @@ fn map_agrees(image: &[u32], geo: Geometry, b: usize) -> bool
     let entries = geo.entries_start(b);
     for i in 0..d {
         let set = bits::is_set(image[map + i / 32], (i % 32) as u32);
-        let free = image[entries + i] == 0xFFFF_FFFF;
-        if set != free {
+        let used = image[entries + i] != 0xFFFF_FFFF;
+        if set & used {
             return false;
         }
     }
@@ -73,7 +74,8 @@ pub fn rest_set(image: &[u32], geo: Geometry, b: usize) -> bool
     true
 }
 
-fn rule2(image: &[u32], geo: Geometry, b: usize) -> bool
+// R2: both.
+pub fn rule2(image: &[u32], geo: Geometry, b: usize) -> bool
     requires { ⌜ Shaped geo (now image) ⌝ }
     requires { ⌜ b < geo .blocks ⌝ }
     ensures { λ r. ⌜ r ≡ R2 geo (now (image .entry)) b ⌝ }
@@ -97,64 +99,87 @@ pub fn contents_clean(image: &[u32], geo: Geometry, b: usize, i: usize) -> bool
 }
 
 // R3: the contents of every free slot are ones.
-fn rule3(image: &[u32], geo: Geometry, b: usize) -> bool
+pub fn rule3(image: &[u32], geo: Geometry, b: usize) -> bool
     requires { ⌜ Shaped geo (now image) ⌝ }
     requires { ⌜ b < geo .blocks ⌝ }
     ensures { λ r. ⌜ r ≡ R3 geo (now (image .entry)) b ⌝ }
 {
     let d = geo.d();
-    let entries = geo.entries_start(b);
     for i in 0..d {
-        if image[entries + i] == 0xFFFF_FFFF {
-            if !contents_clean(image, geo, b, i) {
-                return false;
+        match own_slot(image, geo, b, i) {
+            Slot::Free => {
+                if !contents_clean(image, geo, b, i) {
+                    return false;
+                }
             }
+            Slot::Live(_) => {}
+            Slot::Dead => {}
+            Slot::Faulty => {}
+            Slot::Superseded => {}
         }
     }
     true
 }
 
 // R4: no slot is faulty.
-fn rule4(image: &[u32], geo: Geometry, b: usize) -> bool
+pub fn rule4(image: &[u32], geo: Geometry, b: usize) -> bool
     requires { ⌜ Shaped geo (now image) ⌝ }
     requires { ⌜ b < geo .blocks ⌝ }
     ensures { λ r. ⌜ r ≡ R4 geo (now (image .entry)) b ⌝ }
 {
     let d = geo.d();
-    let base = geo.entries_start(b);
     for i in 0..d {
-        match slot_of(geo.logical, image[base + i]) {
+        match own_slot(image, geo, b, i) {
             Slot::Faulty => {
                 return false;
             }
             Slot::Free => {}
             Slot::Live(_) => {}
             Slot::Dead => {}
+            Slot::Superseded => {}
         }
     }
     true
 }
 
-// Whether the number of an entry, if it is live, lies between the two words. There is no branch here and no way out of the loop that
-// calls it, so that the compiler takes several entries at a time.
-fn bounded(logical: u32, entry: u32, least: u32, greatest: u32) -> bool
-    ensures { λ r. ⌜ r ≡ not (isLiveWith (λ n. not (leb least n && leb n greatest)) (slotOf logical entry)) ⌝ }
-{
-    let n = entry % 0x2000_0000;
-    (entry / 0x2000_0000 != 6) | (logical <= n) | (least <= n) & (n <= greatest)
-}
-
-// R7 of a full block: word 1 is at most every live number, and word 2 at least.
-fn live_in_bounds(image: &[u32], geo: Geometry, b: usize) -> bool
+// Word 1 of block b.
+pub fn least_mapped(image: &[u32], geo: Geometry, b: usize) -> u32
     requires { ⌜ Shaped geo (now image) ⌝ }
     requires { ⌜ b < geo .blocks ⌝ }
-    ensures { λ r. ⌜ r ≡ allBelow (d geo) (λ i. not (isLiveWith (outOfBounds geo (now (image .entry)) b) (slot geo (now (image .entry)) b i))) ⌝ }
+    ensures { λ r. ⌜ r ≡ leastMapped geo (now (image .entry)) b ⌝ }
+{
+    let at = geo.start(b) + 1;
+    image[at]
+}
+
+// Word 2 of block b.
+pub fn greatest_mapped(image: &[u32], geo: Geometry, b: usize) -> u32
+    requires { ⌜ Shaped geo (now image) ⌝ }
+    requires { ⌜ b < geo .blocks ⌝ }
+    ensures { λ r. ⌜ r ≡ greatestMapped geo (now (image .entry)) b ⌝ }
+{
+    let at = geo.start(b) + 2;
+    image[at]
+}
+
+// Whether the number of an entry, if it is live, lies between two words: its map bit does not matter. There is no branch here and no way out
+// of the loop that calls it, so that the compiler takes several entries at a time.
+fn bounded(logical: u32, entry: u32, least: u32, greatest: u32) -> bool
+    ensures { λ r. ⌜ ((set : Bool) → r ≡ not (isLiveWith (outside least greatest) (slotOf logical set entry))) ⌝ }
+{
+    let n = entry % 0x2000_0000;
+    let upper = entry / 0x2000_0000;
+    (upper != 6) & (upper != 4) | (logical <= n) | (least <= n) & (n <= greatest)
+}
+
+// Whether the live numbers of block b, by the slots' own kinds, lie between two words.
+fn own_bounded(image: &[u32], geo: Geometry, b: usize, least: u32, greatest: u32) -> bool
+    requires { ⌜ Shaped geo (now image) ⌝ }
+    requires { ⌜ b < geo .blocks ⌝ }
+    ensures { λ r. ⌜ r ≡ noneWith geo (ownSlot geo (now (image .entry))) (outside least greatest) b ⌝ }
 {
     let d = geo.d();
     let logical = geo.logical;
-    let start = geo.start(b);
-    let least = image[start + 1];
-    let greatest = image[start + 2];
     let entries = geo.entries_start(b);
     let mut inside = true;
     for i in 0..d {
@@ -163,40 +188,43 @@ fn live_in_bounds(image: &[u32], geo: Geometry, b: usize) -> bool
     inside
 }
 
-// R7, of a block whose map agrees with its entries.
-pub fn rule7(image: &[u32], geo: Geometry, b: usize) -> bool
+// R7 by the slots' own kinds, of a block that keeps R2.
+pub fn own_rule7(image: &[u32], geo: Geometry, b: usize) -> bool
     requires { ⌜ Shaped geo (now image) ⌝ }
     requires { ⌜ b < geo .blocks ⌝ }
     requires { ⌜ R2 geo (now image) b ≡ true ⌝ }
-    ensures { λ r. ⌜ r ≡ R7 geo (now (image .entry)) b ⌝ }
+    ensures { λ r. ⌜ r ≡ boundsKept geo (now (image .entry)) (ownSlot geo (now (image .entry))) b ⌝ }
 {
-    let start = geo.start(b);
-    if lowest_free(image, geo, b) == geo.d() {
-        return live_in_bounds(image, geo, b);
+    let least = least_mapped(image, geo, b);
+    let greatest = greatest_mapped(image, geo, b);
+    if lowest_free(image, geo, b) != geo.d() {
+        return (least == 0xFFFF_FFFF) & (greatest == 0xFFFF_FFFF);
     }
-    if image[start + 1] != 0xFFFF_FFFF {
+    if (least == 0xFFFF_FFFF) | (greatest == 0xFFFF_FFFF) {
         return false;
     }
-    image[start + 2] == 0xFFFF_FFFF
+    own_bounded(image, geo, b, least, greatest)
 }
 
-// The first of R2 to R5 that block b breaks, where it breaks one of them.
-pub fn first_of_2_to_5(image: &[u32], geo: Geometry, b: usize) -> u32
-    requires { ⌜ Shaped geo (now image) ⌝ }
-    requires { ⌜ b < geo .blocks ⌝ }
-    requires { ⌜ R1 geo (now image) b ≡ true ⌝ }
-    requires { ⌜ (R2 geo (now image) b && R3 geo (now image) b && R4 geo (now image) b && R5 geo (now image) b) ≡ false ⌝ }
-    ensures { λ r. ⌜ r ≡ brokenRule geo (now (image .entry)) b ⌝ }
-    ensures { λ r. ⌜ 0 < r ⌝ }
+// Marks the number n. Whether it was not marked before.
+pub fn mark(marks: &mut [u32], n: u32) -> bool
+    requires { ⌜ length (now marks) ≡ markWords ⌝ }
+    requires { ⌜ n < 32 * markWords ⌝ }
+    ensures { λ r. ⌜ r ≡ not (seen (now (marks .entry)) n) ⌝ }
+    ensures { λ r. ⌜ ((m : ℕ) → seen (now (marks .exit)) m ≡ (seen (now (marks .entry)) m || eqb n m)) ⌝ }
 {
-    if !rule2(image, geo, b) {
-        return 2;
-    }
-    if !rule3(image, geo, b) {
-        return 3;
-    }
-    if !rule4(image, geo, b) {
-        return 4;
-    }
-    5
+    let at = (n / 32) as usize;
+    let new = bits::is_set(marks[at], n % 32);
+    marks[at] = bits::clear_bit(marks[at], n % 32);
+    new
+}
+
+// Whether the number n is marked.
+pub fn is_marked(marks: &[u32], n: u32) -> bool
+    requires { ⌜ length (now marks) ≡ markWords ⌝ }
+    requires { ⌜ n < 32 * markWords ⌝ }
+    ensures { λ r. ⌜ r ≡ seen (now (marks .entry)) n ⌝ }
+{
+    let at = (n / 32) as usize;
+    !bits::is_set(marks[at], n % 32)
 }

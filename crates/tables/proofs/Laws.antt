@@ -13,12 +13,12 @@ use Rattle.geometry.specs.declared.Geometry.{Geometry}
 use Rattle.geometry.specs.Geometry.{Limits, d}
 use Rattle.geometry.proofs.Laws.{d-small, d-positive}
 use Rattle.image.specs.declared.Slot.{Slot}
-use Rattle.image.specs.declared.Slot.the-variants.{Free, Live, Dead, Faulty}
+use Rattle.image.specs.declared.Slot.the-variants.{Free, Live, Dead, Faulty, Superseded}
 use Rattle.image.specs.declared.Found.{Found}
 use Rattle.image.specs.declared.Found.the-variants.{At, Nothing}
 use Rattle.image.specs.Words.{Image}
 use Rattle.image.specs.Slots.{slot, find}
-use Rattle.image.proofs.Entries.{live-parts}
+use Rattle.image.proofs.Own.{live-number}
 use Rattle.image.proofs.Facts.{Sound}
 use Rattle.image.proofs.Finding.{found-live, found-nothing}
 use Rattle.tables.specs.Tables.{Table, nowhere, placeWord, rightTable, noted, slotNoted, blockNoted, blocksNoted}
@@ -129,10 +129,6 @@ module _ (geo : Geometry) (image : Image) (s : Sound geo image) where
         not-noted = λ n l nowhere-before. h .not-noted n l (λ c j k r p e. nowhere-before c j k r (before-later p) e);
       }
 
-  number-below : (b m : ℕ) {n : ℕ} → slot geo image b m ≡ Live n → n < geo .logical
-  unfolding slot
-  number-below b m e = live-parts (geo .logical) _ _ e .2
-
   -- a live slot is noted
   one-noted :
       {b m n : ℕ} {table : Table} →
@@ -158,7 +154,7 @@ module _ (geo : Geometry) (image : Image) (s : Sound geo image) where
           getD (noted geo table n (At b m)) x 0 ≡ placeWord geo (At c j)
       at x c j l k p e (yes q) =
           let same = s .once n c b j m l block k inside (e ∙ ap Live q) live in
-          rw (q, same .0, same .1) (getD-set-same table n (placeWord geo (At b m)) 0 (omega (arith, h .long, number-below b m live)))
+          rw (q, same .0, same .1) (getD-set-same table n (placeWord geo (At b m)) 0 (omega (arith, h .long, live-number geo image b m live)))
       at x c j l k p e (no q) =
           getD-set-other table n x (placeWord geo (At b m)) 0 q
           ∙ ⊎-elim
@@ -196,6 +192,7 @@ module _ (geo : Geometry) (image : Image) (s : Sound geo image) where
       go (Live n) e = one-noted l k e so-far
       go Dead e = other e (λ n q. let z : _≡_ {A = ℕ} 0 1 = cc in omega arith)
       go Faulty e = other e (λ n q. let z : _≡_ {A = ℕ} 0 1 = cc in omega arith)
+      go Superseded e = other e (λ n q. let z : _≡_ {A = ℕ} 0 1 = cc in omega arith)
 
   -- the slots of a block
   block-covers :

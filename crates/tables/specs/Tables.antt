@@ -6,7 +6,7 @@ use Rattle.ranges.specs.Range.{listBelow}
 use Rattle.geometry.specs.declared.Geometry.{Geometry}
 use Rattle.geometry.specs.Geometry.{d}
 use Rattle.image.specs.declared.Slot.{Slot}
-use Rattle.image.specs.declared.Slot.the-variants.{Free, Live, Dead, Faulty}
+use Rattle.image.specs.declared.Slot.the-variants.{Free, Live, Dead, Faulty, Superseded}
 use Rattle.image.specs.declared.Found.{Found}
 use Rattle.image.specs.declared.Found.the-variants.{At, Nothing}
 use Rattle.image.specs.Words.{Image}
@@ -40,6 +40,7 @@ module _ (geo : Geometry) where
   slotNoted table (Live n) now = noted table n now
   slotNoted table Dead now = table
   slotNoted table Faulty now = table
+  slotNoted table Superseded now = table
 
   -- how a table is built: from one that has no number anywhere, the live slots are noted, in the order of blocks and slots; here the first m
   -- slots of block b, and all slots of the first m blocks

@@ -9,17 +9,19 @@ ghost use Rattle.geometry.specs.Geometry.{Limits, d};
 ghost use Rattle.image.specs.declared.Found.the-variants.{At};
 ghost use Rattle.image.specs.Words.{Shaped};
 ghost use Rattle.image.specs.Slots.{slot, isLiveFor, find};
-ghost use Rattle.image.specs.WellFormed.{sound};
+ghost use Rattle.image.specs.WellFormed.{sound, NoneSuperseded};
 ghost use Rattle.tables.specs.Tables.{nowhere, placeWord, rightTable, blockNoted};
 use geometry::Geometry;
 use image::Found;
 use image::Slot;
 use image::slots::find;
-use image::slots::slot_at;
+use image::slots::own_slot;
 
-// Whether a word tells a slot that is in the image and is live for n: whatever the word is, nothing outside the image is read.
+// Whether a word tells a slot that is in the image and is live for n: whatever the word is, nothing outside the image is read. An entry that is
+// live for n is complete or in passing: with bit 30 cleared it is the same word.
 fn confirmed(image: &[u32], geo: Geometry, n: u32, word: usize) -> bool
     requires { ⌜ Shaped geo (now image) ⌝ }
+    requires { ⌜ NoneSuperseded geo (now image) ⌝ }
     requires { ⌜ n < geo .logical ⌝ }
     ensures { λ r. ⌜ r ≡ (ltb (word / d geo) (geo .blocks) && isLiveFor n (slot geo (now (image .entry)) (word / d geo) (word % d geo))) ⌝ }
 {
@@ -30,7 +32,7 @@ fn confirmed(image: &[u32], geo: Geometry, n: u32, word: usize) -> bool
         return false;
     }
     let at = geo.entries_start(b) + word % d;
-    image[at] == 0xC000_0000 + n
+    bits::clear_bit(image[at], 30) == 0x8000_0000 + n
 }
 
 // Where n is live. The table's word is taken only where the entry there says so too; by R5 that is then the one slot. Else every entry is
@@ -84,16 +86,18 @@ fn forget(table: &mut [u16])
 // Notes the live slots of block b.
 fn note_block(image: &[u32], geo: Geometry, b: usize, table: &mut [u16])
     requires { ⌜ Shaped geo (now image) ⌝ }
+    requires { ⌜ NoneSuperseded geo (now image) ⌝ }
     requires { ⌜ b < geo .blocks ⌝ }
     ensures { λ _. ⌜ now (table .exit) ≡ blockNoted geo (now (image .entry)) b (now (table .entry)) (d geo) ⌝ }
 {
     let d = geo.d();
     for i in 0..d {
-        match slot_at(image, geo, b, i) {
+        match own_slot(image, geo, b, i) {
             Slot::Live(n) => note(table, n, word_at(geo, b, i)),
             Slot::Free => {}
             Slot::Dead => {}
             Slot::Faulty => {}
+            Slot::Superseded => {}
         }
     }
 }

@@ -5,7 +5,7 @@ ghost use lib.ListN.{length};
 ghost use Rattle.geometry.specs.Geometry.{sectorWords};
 ghost use Rattle.image.specs.Words.{Shaped};
 ghost use Rattle.image.specs.Blocks.{victim};
-ghost use Rattle.image.specs.WellFormed.{MapsAgree, wellFormed};
+ghost use Rattle.image.specs.WellFormed.{MapsAgree, sound, wellFormed};
 ghost use Rattle.flash.specs.Steps.{run, wordsIn};
 ghost use Rattle.flash.specs.Writing.{mustReclaim, filling, reclaimingFirst, planned};
 ghost use Rattle.flash.specs.Tables.{tableFilled, tableReclaimedFirst};
@@ -36,7 +36,7 @@ fn must_reclaim(image: &[u32], geo: Geometry) -> bool
 // How a write goes about it.
 pub fn plan(image: &[u32], geo: Geometry) -> Plan
     requires { ⌜ Shaped geo (now image) ⌝ }
-    requires { ⌜ MapsAgree geo (now image) ⌝ }
+    requires { ⌜ sound geo (now image) ≡ true ⌝ }
     requires { ⌜ (mustReclaim geo (now image) ≡ true → victim geo (now image) < geo .blocks) ⌝ }
     ensures { λ r. ⌜ r ≡ planned geo (now (image .entry)) ⌝ }
 {

@@ -5,7 +5,7 @@ ghost use Rattle.image.specs.Words.{Shaped, eraseCount};
 ghost use Rattle.image.specs.Blocks.{leastWornBlank};
 ghost use Rattle.image.specs.WellFormed.{ceiling};
 ghost use Rattle.flash.specs.Steps.{run, wordsIn};
-ghost use Rattle.flash.specs.Writing.{FoundInPlace, copying, reclaiming};
+ghost use Rattle.flash.specs.Writing.{EachInTurn, copying, reclaiming};
 ghost use Rattle.flash.specs.Tables.{tableCopied, tableReclaimed};
 use blocks::erase_count;
 use flash::steps::erase_block;
@@ -14,7 +14,7 @@ use geometry::Geometry;
 use image::Found;
 use image::Slot;
 use image::slots::copy_contents;
-use image::slots::slot_at;
+use image::slots::own_slot;
 use placing::place_over;
 use tables::note;
 use tables::word_at;
@@ -25,7 +25,7 @@ fn copy_live(image: &mut [u32], geo: Geometry, v: usize, t: usize, table: &mut [
     requires { ⌜ Shaped geo (now image) ⌝ }
     requires { ⌜ v < geo .blocks ⌝ }
     requires { ⌜ t < geo .blocks ⌝ }
-    requires { ⌜ FoundInPlace geo (now image) v t ⌝ }
+    requires { ⌜ EachInTurn geo (now image) v t ⌝ }
     ensures { λ r. ⌜ r ≡ wordsIn (copying geo (now (image .entry)) v t (d geo) .steps) ⌝ }
     ensures { λ r. ⌜ now (image .exit) ≡ run geo (now (image .entry)) (copying geo (now (image .entry)) v t (d geo) .steps) ⌝ }
     ensures { λ r. ⌜ now (table .exit) ≡ tableCopied geo (now (image .entry)) v t (now (table .entry)) (d geo) ⌝ }
@@ -34,7 +34,7 @@ fn copy_live(image: &mut [u32], geo: Geometry, v: usize, t: usize, table: &mut [
     let mut words = 0u32;
     let mut taken = 0usize;
     for i in 0..d {
-        match slot_at(image, geo, v, i) {
+        match own_slot(image, geo, v, i) {
             Slot::Live(n) => {
                 let mut buffer = [0u32; 128];
                 copy_contents(image, geo, v, i, &mut buffer);
@@ -45,6 +45,7 @@ fn copy_live(image: &mut [u32], geo: Geometry, v: usize, t: usize, table: &mut [
             Slot::Free => {}
             Slot::Dead => {}
             Slot::Faulty => {}
+            Slot::Superseded => {}
         }
     }
     words
@@ -57,7 +58,7 @@ pub fn reclaim(image: &mut [u32], geo: Geometry, v: usize, t: usize, table: &mut
     requires { ⌜ t < geo .blocks ⌝ }
     requires { ⌜ t ≡ leastWornBlank geo (now image) ⌝ }
     requires { ⌜ eraseCount geo (now image) v < ceiling ⌝ }
-    requires { ⌜ FoundInPlace geo (now image) v t ⌝ }
+    requires { ⌜ EachInTurn geo (now image) v t ⌝ }
     ensures { λ r. ⌜ r ≡ wordsIn (reclaiming geo (now (image .entry)) v) ⌝ }
     ensures { λ r. ⌜ now (image .exit) ≡ run geo (now (image .entry)) (reclaiming geo (now (image .entry)) v) ⌝ }
     ensures { λ r. ⌜ now (table .exit) ≡ tableReclaimed geo (now (image .entry)) v (now (table .entry)) ⌝ }

@@ -11,7 +11,7 @@ use Rattle.geometry.specs.declared.Geometry.{Geometry}
 use Rattle.geometry.specs.Geometry.{sectorWords}
 use Rattle.image.specs.Words.{Image, Shaped, Words32}
 use Rattle.image.specs.WellFormed.{wellFormed}
-use Rattle.image.proofs.Facts.{sound-maps}
+use Rattle.image.proofs.Facts.{formed-sound}
 use Rattle.image.specs.Blocks.{victim}
 use Rattle.flash.specs.declared.Plan.the-variants.{Reclaim}
 use Rattle.flash.specs.Steps.{run, erasuresIn}
@@ -148,7 +148,7 @@ plan-requires c κs =
     let image = known .before .args .image .now in
     let words : Words32 image = record { small = λ q. known .slice-known .given q .fits } in
     let ready = formed-ready (known .before .args .geo) image (h .shaped) words (h .formed) .0 in
-    (h .shaped, (sound-maps _ _ (ready .sound), λ must. victim-in _ _ ready must))
+    (h .shaped, (formed-sound _ _ (h .formed), λ must. victim-in _ _ ready must))
 
 enum-told : tie.Need-enum-told
 enum-told c = search needs

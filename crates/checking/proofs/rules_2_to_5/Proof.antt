@@ -2,7 +2,7 @@
 -- four rules, and the first that breaks one decides.
 use mathlib.Core.Path.{_≡_, refl, sym, ap, _∙_}
 use mathlib.Core.Logic.{⊎-elim}
-use mathlib.Core.Bool.{Bool, true, false, not, _&&_, Bool·beq, false≢true}
+use mathlib.Core.Bool.{Bool, true, false, not, _&&_, false≢true}
 use mathlib.Core.List.{List}
 use Prim.Native.Nat.{ℕ, _+_, _-_, _<_, _≤_}
 use native.Mathlib.Omega.{arith}
@@ -17,20 +17,21 @@ use Rattle.geometry.proofs.Laws.{map-covers, logical-small}
 use Rattle.image.specs.Words.{contents}
 use Rattle.image.specs.declared.Slot.{Slot}
 use Rattle.image.specs.declared.Slot.the-variants.{Live}
-use Rattle.image.specs.Slots.{slot, isFree, isFreeEntry, isFaulty, isLiveWith}
+use Rattle.image.specs.Slots.{slotOf, ownSlot, isFree, isFreeEntry, isFaulty, isLiveWith}
 use Rattle.image.specs.WellFormed.{allOnes, liveBefore}
-use Rattle.image.proofs.Entries.{live-entry}
-use Rattle.image.proofs.Reading.{map-inside, entry-inside, slot-read}
-use Rattle.checking.specs.Marks.{seen, Marks}
+use Rattle.image.proofs.Entries.{live-parts}
+use Rattle.image.proofs.Reading.{map-inside, entry-inside, own-read}
+use Rattle.rules.specs.Marks.{seen, Marks}
 use Rattle.rules.proofs.RuleLaws.{all-more, agrees, agrees-read}
-use Rattle.checking.proofs.CheckLaws.{marks-next, other-learnt, live-learnt}
-use Rattle.checking.proofs.CheckLaws.{keeps, keeps-kind, fourRules, keeps-rules, rest-breaks}
+use Rattle.rules.proofs.MarkLaws.{marks-next, other-learnt, live-learnt}
+use Rattle.checking.specs.OwnKinds.{fourByOwn}
+use Rattle.checking.proofs.CheckLaws.{keeps, keeps-kind, keeps-rules, rest-breaks}
 use Rattle.checking.proofs.rules_2_to_5.Statement.{statement}
 use Rattle.checking.proofs.rules_2_to_5.Tie as tie
 
 abbrev Inv-loop : tie.InvT-loop
 Inv-loop image geo b marks₀ d map entries i₀ marks i =
-    (i ≤ d) × Marks geo image b i marks × (allBelow i (keeps geo image b) ≡ true)
+    (i ≤ d) × Marks geo (ownSlot geo image) b i marks × (allBelow i (keeps geo image b) ≡ true)
 
 abbrev μ-loop : tie.MeasureT-loop
 μ-loop image geo b marks₀ d map entries i₀ marks i = d - i
@@ -63,7 +64,7 @@ module _ (turn : tie.At-loop Inv-loop μ-loop) where
   -- the tests of all slots are the four rules
   rules :
       allBelow (d (start .args .geo)) (keeps (start .args .geo) (start .args .image .now) (start .args .b))
-      ≡ fourRules (start .args .geo) (start .args .image .now) (start .args .b)
+      ≡ fourByOwn (start .args .geo) (start .args .image .now) (start .args .b)
   rules =
       let rest = turn .before .before .before .before in
       keeps-rules _ _ _ (sym (rest .before .rest-set .ensures) ∙ not-false _ (rest .if1 .left))
@@ -72,7 +73,7 @@ module _ (turn : tie.At-loop Inv-loop μ-loop) where
   decides :
       turn .loop .i < d (start .args .geo) →
       keeps (start .args .geo) (start .args .image .now) (start .args .b) (turn .loop .i) ≡ false →
-      false ≡ fourRules (start .args .geo) (start .args .image .now) (start .args .b)
+      false ≡ fourByOwn (start .args .geo) (start .args .image .now) (start .args .b)
   decides l broken = sym (not-all (d (start .args .geo)) _ l broken) ∙ rules
 
   same-marks : length (turn .loop .marks) ≡ length (start .args .marks .now)
@@ -115,15 +116,21 @@ cast-is-set c = omega arith
 is-set-requires : tie.Need-is-set-requires Inv-loop μ-loop
 is-set-requires c κs = search needs
 
--- what the branch tests is whether the map agrees with slot i
-agrees-is : (c : tie.After-is-set Inv-loop μ-loop)
-    → let turn = c .before .before .before .before in
-    let start = start turn in
-    Bool·beq (c .is-set .result) (isFreeEntry (getD (start .args .image .now) (turn .before .entries-start .result + turn .loop .i) 0))
-    ≡ agrees (start .args .geo) (start .args .image .now) (start .args .b) (turn .loop .i)
-agrees-is c =
-    let turn = c .before .before .before .before in
-    rw (c .is-set .ensures) (agrees-read _ _ (start turn .args .b) (turn .loop .i) _ _ (omega arith) (omega arith))
+-- what the branch tests is whether the map disagrees with slot i
+module _ (c : tie.After-is-set Inv-loop μ-loop) where
+  abbrev asked : tie.At-loop Inv-loop μ-loop
+  asked = c .before .before .before .before
+
+  abbrev agree : Bool
+  agree = agrees (start asked .args .geo) (start asked .args .image .now) (start asked .args .b) (asked .loop .i)
+
+  abbrev used : Bool
+  used = not (isFreeEntry (getD (start asked .args .image .now) (asked .before .entries-start .result + asked .loop .i) 0))
+
+  agree-is : (c .is-set .result && used) ≡ not agree
+  agree-is =
+      ap (λ (set : Bool). set && used) (c .is-set .ensures)
+      ∙ agrees-read _ _ (start asked .args .b) (asked .loop .i) _ _ (omega arith) (omega arith)
 
 same-length : tie.Need-same-length Inv-loop μ-loop
 same-length c = same-marks (c .before .before .before .before .before)
@@ -131,7 +138,7 @@ same-length c = same-marks (c .before .before .before .before .before)
 returns-2 : tie.Need-returns-2 Inv-loop μ-loop
 returns-2 c =
     let turn = c .before .before .before .before .before in
-    let differs = sym (agrees-is (c .before)) ∙ not-true _ (c .if2 .taken) in
+    let differs : agree (c .before) ≡ false = not-true _ (sym (agree-is (c .before)) ∙ c .if2 .taken) in
     (decides turn (omega arith) (rw differs), λ r. absurd (false≢true r))
 
 slot-of-requires : tie.Need-slot-of-requires Inv-loop μ-loop
@@ -145,8 +152,14 @@ module _ (c : tie.After-slot-of Inv-loop μ-loop) where
   abbrev from : tie.Start Inv-loop μ-loop
   from = start turn
 
-  slot-is : {s : Slot} → c .slot-of .result ≡ s → slot (from .args .geo) (from .args .image .now) (from .args .b) (turn .loop .i) ≡ s
-  slot-is kind = sym (c .slot-of .ensures ∙ slot-read _ _ (from .args .b) (turn .loop .i) _ (omega arith)) ∙ kind
+  slot-is : {s : Slot} → c .slot-of .result ≡ s → ownSlot (from .args .geo) (from .args .image .now) (from .args .b) (turn .loop .i) ≡ s
+  slot-is kind =
+      sym
+      (c .slot-of .ensures
+      ∙ ap (λ (set : Bool). slotOf (from .args .geo .logical) set (getD (from .args .image .now) (turn .before .entries-start .result + turn .loop .i) 0))
+      (c .before .before .is-set .ensures)
+      ∙ own-read _ _ (from .args .b) (turn .loop .i) _ _ (omega arith) (omega arith))
+      ∙ kind
 
   inside : turn .loop .i < d (from .args .geo)
   inside = omega arith
@@ -161,15 +174,13 @@ module _ (c : tie.After-slot-of Inv-loop μ-loop) where
       kept
       ≡ ((isFree s implies allOnes (contents (from .args .geo) (from .args .image .now) (from .args .b) (turn .loop .i)))
       && not (isFaulty s)
-      && not (isLiveWith (liveBefore (from .args .geo) (from .args .image .now) (from .args .b) (turn .loop .i)) s))
+      && not (isLiveWith (liveBefore (from .args .geo) (ownSlot (from .args .geo) (from .args .image .now)) (from .args .b) (turn .loop .i)) s))
   keeps-is kind =
-      keeps-kind _ _ _ _ (sym (agrees-is (c .before .before)) ∙ not-false _ (c .before .if2 .left)) (slot-is kind)
+      keeps-kind _ _ _ _ (not-false (agree (c .before .before)) (sym (agree-is (c .before .before)) ∙ c .before .if2 .left)) (slot-is kind)
 
   -- a live number is one of the numbers, and was live before exactly where it was seen
   number-small : (n : ℕ) → c .slot-of .result ≡ Live n → n < from .args .geo .logical
-  number-small n kind =
-      let known = c .before .before .before .before .shared-slice-known2 .given (turn .before .entries-start .result + turn .loop .i) in
-      live-entry _ _ n (omega arith) (sym (c .slot-of .ensures) ∙ kind) .1
+  number-small n kind = live-parts _ _ _ n (sym (c .slot-of .ensures) ∙ kind) .2
 
   live-keeps : (n : ℕ) → c .slot-of .result ≡ Live n → kept ≡ not (seen (turn .loop .marks) n)
   live-keeps n kind = keeps-is kind ∙ sym (ap not (turn .loop .inv .1 .says n (number-small n kind)))
@@ -177,7 +188,7 @@ module _ (c : tie.After-slot-of Inv-loop μ-loop) where
   -- what the invariant asks after the turn
   abbrev Passed : List ℕ → Type 0
   Passed marks =
-      Marks (from .args .geo) (from .args .image .now) (from .args .b) (turn .loop .i + 1) marks × (kept ≡ true)
+      Marks (from .args .geo) (ownSlot (from .args .geo) (from .args .image .now)) (from .args .b) (turn .loop .i + 1) marks × (kept ≡ true)
 
   other :
       {s : Slot} →
@@ -185,7 +196,7 @@ module _ (c : tie.After-slot-of Inv-loop μ-loop) where
       ((f : ℕ → Bool) → isLiveWith f s ≡ false) →
       (marks : List ℕ) →
       marks ≡ turn .loop .marks →
-      Marks (from .args .geo) (from .args .image .now) (from .args .b) (turn .loop .i + 1) marks
+      Marks (from .args .geo) (ownSlot (from .args .geo) (from .args .image .now)) (from .args .b) (turn .loop .i + 1) marks
   other kind none marks e = rw e (other-learnt _ _ (turn .loop .inv .1) (λ f. ap (isLiveWith f) (slot-is kind) ∙ none f))
 
 enum-told : tie.Need-enum-told Inv-loop μ-loop
@@ -242,6 +253,9 @@ returns-5 c =
     let here = c .before .before in
     (decides (turn here) (inside here) (keeps-is here (c .enum-told3 .given .1)), λ r. absurd (false≢true r))
 
+enum-told-4 : tie.Need-enum-told-4 Inv-loop μ-loop
+enum-told-4 c = search needs
+
 add-i : tie.Need-add-i Inv-loop μ-loop
 add-i c = omega arith
 
@@ -263,7 +277,9 @@ loop-again c =
       rw (w .8) (live-learnt _ _ (loop .inv .1) _ (slot-is here (w .1 .given .1)) _ (w .4 .kept .0) (w .4 .ensures .1)),
       live-keeps here _ (w .1 .given .1) ∙ sym (w .4 .ensures .0) ∙ not-false _ (w .7 .left),
     ))
-    (λ w. (other here (w .1 .given .1) (λ f. refl) _ (w .2), keeps-is here (w .1 .given .1))))
+    (⊎-elim
+    (λ w. (other here (w .1 .given .1) (λ f. refl) _ (w .2), keeps-is here (w .1 .given .1)))
+    (λ w. (other here (w .1 .given .1) (λ f. refl) _ (w .2), keeps-is here (w .1 .given .1)))))
     (c .match .came) in
     (omega arith, passed .0, all-more (loop .i) _ (loop .inv .2) (passed .1))
 
@@ -311,6 +327,7 @@ rules-2-to-5-spec =
     enum-told-3
     same-length-4
     returns-5
+    enum-told-4
     add-i
     loop-less
     loop-again

@@ -1,13 +1,14 @@
 -- `placing::close_block` meets its contract: where no slot is free the block is full, and the two bounds are programmed.
-use mathlib.Core.Bool.{not, Bool·not-not}
 use mathlib.Core.List.{[], _∷_}
-use mathlib.Core.Path.{_≡_, refl, sym, ap, _∙_}
+use mathlib.Core.Path.{_≡_, refl, ap, _∙_}
 use Prim.Native.Nat.{_+_, _<_}
 use native.Mathlib.Omega.{arith}
+use lib.Dec.{eqb}
 use lib.ListN.{length}
 use borrow.Author.Needs.{needs}
+use borrow.Author.Tests.{eq-eqb, ne-eqb}
 use Rattle.image.specs.Blocks.{full}
-use Rattle.image.proofs.Reading.{block-room}
+use Rattle.image.proofs.Reading.{block-room, full-first}
 use Rattle.flash.specs.declared.LiveBounds.{LiveBounds}
 use Rattle.flash.specs.Steps.{run, wordsIn}
 use Rattle.flash.specs.Placing.{closesBlock}
@@ -16,12 +17,12 @@ use Rattle.placing.proofs.close_block.Statement.{statement}
 use Rattle.placing.proofs.close_block.Tie as tie
 
 -- whether the block is full
-full-here : (c : tie.After-has-free) →
-    let start = c .before .before .before .before in
-    full (start .args .geo) (start .args .image .now) (start .args .b) ≡ not (c .has-free .result)
+full-here : (c : tie.After-d) →
+    let start = c .before .before .before .before .before in
+    full (start .args .geo) (start .args .image .now) (start .args .b) ≡ eqb (c .before .lowest-free .result) (c .d .result)
 full-here c =
-    let start = c .before .before .before .before in
-    sym (ap not (c .has-free .ensures) ∙ Bool·not-not (full (start .args .geo) (start .args .image .now) (start .args .b)))
+    let start = c .before .before .before .before .before in
+    rw (c .before .lowest-free .ensures, c .d .ensures) (full-first (start .args .geo) (start .args .image .now) (start .args .b))
 
 -- words 1 and 2 lie in the image
 inside : (c : tie.After-start) →
@@ -29,20 +30,23 @@ inside : (c : tie.After-start) →
     c .start .result + 2 < length (start .args .image .now)
 inside c =
     let start = c .before .before in
-    omega (arith, block-room _ _ (start .pre .0) (start .args .b) (start .pre .1))
+    omega (arith, block-room _ _ (start .pre .0) (start .args .b) (start .pre .1 .1 .0))
 
 start-requires : tie.Need-start-requires
 start-requires c κs = search needs
 
-has-free-requires : tie.Need-has-free-requires
-has-free-requires c κs = search needs
+lowest-free-requires : tie.Need-lowest-free-requires
+lowest-free-requires c κs = search needs
+
+d-requires : tie.Need-d-requires
+d-requires c κs = search needs
 
 same-length : tie.Need-same-length
 same-length c = search needs
 
 returns : tie.Need-returns
 unfolding closesBlock run wordsIn
-returns c = rw (full-here (c .before) ∙ ap not (c .if1 .taken)) (refl, refl)
+returns c = rw (full-here (c .before) ∙ ne-eqb _ _ (c .if1 .taken)) (refl, refl)
 
 live-bounds-requires : tie.Need-live-bounds-requires
 live-bounds-requires c κs = search needs
@@ -51,7 +55,7 @@ add-program : tie.Need-add-program
 add-program c = search needs
 
 program-requires : tie.Need-program-requires
-program-requires c κs = omega (arith, inside (c .before .before .before .before .before .before))
+program-requires c κs = omega (arith, inside (c .before .before .before .before .before .before .before))
 
 add-program-2 : tie.Need-add-program-2
 add-program-2 c = search needs
@@ -59,7 +63,7 @@ add-program-2 c = search needs
 program-requires-2 : tie.Need-program-requires-2
 program-requires-2 c κs =
     let first = c .before .before .before in
-    omega (arith, inside (first .before .before .before .before .before .before .before), first .program .kept .0)
+    omega (arith, inside (first .before .before .before .before .before .before .before .before), first .program .kept .0)
 
 same-length-2 : tie.Need-same-length-2
 same-length-2 c = search needs
@@ -70,7 +74,7 @@ returns-2 c =
     let first = c .before .before .before .before .before .before in
     let bounds = first .before .before in
     let other = bounds .before .before in
-    rw (full-here (other .before) ∙ ap not (other .if1 .left)) (
+    rw (full-here (other .before) ∙ eq-eqb _ _ (other .if1 .left)) (
       refl,
       run-then _ _ (_ ∷ []) (_ ∷ [])
           (run-program _ _ (first .program .ensures) (omega arith) (ap (λ (r : LiveBounds). r .least) (bounds .live-bounds .ensures)))
@@ -82,7 +86,8 @@ close-block-spec =
     tie.close
     (tie.spec
     start-requires
-    has-free-requires
+    lowest-free-requires
+    d-requires
     same-length
     returns
     live-bounds-requires

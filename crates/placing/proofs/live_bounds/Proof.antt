@@ -15,13 +15,18 @@ use Rattle.ranges.proofs.Searches.{best-le, best-ext, best-none}
 use Rattle.geometry.specs.Geometry.{d}
 use Rattle.image.specs.declared.Slot.{Slot}
 use Rattle.image.specs.declared.Slot.the-variants.{Live}
-use Rattle.image.specs.Slots.{isLiveFor, liveIn}
+use Rattle.image.specs.Words.{Image, word}
+use Rattle.image.specs.Slots.{slotOf, slot, isLiveFor, liveIn}
 use Rattle.image.proofs.Entries.{live-parts}
-use Rattle.image.proofs.Reading.{entry-inside, slotFrom, slot-read}
+use Rattle.image.proofs.Reading.{entry-inside, by-entry}
 use Rattle.flash.specs.Placing.{leastLive, greatestLive}
 use Rattle.placing.proofs.BoundLaws.{orAt, first-more, last-one, last-more}
 use Rattle.placing.proofs.live_bounds.Statement.{statement}
 use Rattle.placing.proofs.live_bounds.Tie as tie
+
+-- slot j of a block by the word that the code reads, where `base` is the place of the block's first entry
+abbrev slotFrom : Image → ℕ → ℕ → ℕ → Slot
+slotFrom image logical base j = slotOf logical false (word image (base + j))
 
 -- n is live in one of the first i slots
 abbrev liveAmong : (ℕ → Slot) → ℕ → ℕ → Bool
@@ -85,7 +90,7 @@ inside : (c : tie.In-loop Inv-loop μ-loop) →
     entries .entries-start .result + c .before .loop .i < length (start .args .image .now)
 inside c =
     let start = c .before .before .before .before .before in
-    omega (arith, entry-inside _ _ (start .pre .0) {i = c .before .loop .i} (start .pre .1) (omega arith))
+    omega (arith, entry-inside _ _ (start .pre .0) {i = c .before .loop .i} (start .pre .1 .1) (omega arith))
 
 d-requires : tie.Need-d-requires Inv-loop μ-loop
 d-requires c κs = search needs
@@ -122,6 +127,9 @@ enum-told-2 c = search needs
 enum-told-3 : tie.Need-enum-told-3 Inv-loop μ-loop
 enum-told-3 c = search needs
 
+enum-told-4 : tie.Need-enum-told-4 Inv-loop μ-loop
+enum-told-4 c = search needs
+
 add-i : tie.Need-add-i Inv-loop μ-loop
 add-i c = omega arith
 
@@ -146,7 +154,7 @@ live-turn c least lower =
     let turn = read .before .before in
     let start = turn .before .before .before .before in
     let live = sym (known .before .before .slot-of .ensures) ∙ known .n .given .1 in
-    with-live (turn .loop .inv .1) live (live-parts _ _ _ live .2) lower
+    with-live (turn .loop .inv .1) live (live-parts _ _ _ _ live .2) lower
     (λ e. ⊎-elim (λ w. omega arith) (⊎-elim (λ w. absurd (w .0 .left e)) (λ w. absurd (w .0 .left e))) (c .if1 .came))
     (λ e. ⊎-elim (λ w. omega arith) (⊎-elim (λ w. omega arith) (λ w. omega arith)) (c .if1 .came))
 
@@ -170,9 +178,24 @@ loop-again c =
           (λ w. rw (w .2, w .3) (without v (λ n. ap (isLiveFor n) (this ∙ w .1 .given .1))))
           (⊎-elim
           (λ w. rw (w .2, w .3) (without v (λ n. ap (isLiveFor n) (this ∙ w .1 .given .1))))
-          (λ w. rw (w .2, w .3) (without v (λ n. ap (isLiveFor n) (this ∙ w .1 .given .1)))))))
+          (⊎-elim
+          (λ w. rw (w .2, w .3) (without v (λ n. ap (isLiveFor n) (this ∙ w .1 .given .1))))
+          (λ w. rw (w .2, w .3) (without v (λ n. ap (isLiveFor n) (this ∙ w .1 .given .1))))))))
           (c .match .came),
     )
+
+-- a slot is live for n exactly where the word that the code reads says so
+live-here : (c : tie.After-loop Inv-loop μ-loop) (n j : ℕ) →
+    let start = c .before .before .before .before .before in
+    let geo = start .args .geo in
+    let image = start .args .image .now in
+    j < d geo →
+    isLiveFor n (slotFrom image (geo .logical) (c .before .before .entries-start .result) j) ≡ isLiveFor n (slot geo image (start .args .b) j)
+live-here c n j k =
+    let start = c .before .before .before .before .before in
+    by-entry (start .args .geo) (start .args .image .now) (start .pre .1 .0) (isLiveFor n) refl (start .pre .1 .1) k
+    (c .before .before .entries-start .result + j)
+    (omega arith)
 
 -- at the end the slots passed are those of the block
 all : (c : tie.After-loop Inv-loop μ-loop) (beats : ℕ → ℕ → Bool) →
@@ -190,7 +213,7 @@ all c beats =
     rw end
     (best-ext (geo .logical)
     (λ n l. any-ext (d geo)
-    (λ j k. ap (isLiveFor n) (slot-read geo image (start .args .b) j (c .before .before .entries-start .result + j) (omega arith))))
+    (λ j k. live-here c n j k))
     (λ i r l k. refl))
 
 returns : tie.Need-returns Inv-loop μ-loop
@@ -216,6 +239,7 @@ live-bounds-spec =
     enum-told
     enum-told-2
     enum-told-3
+    enum-told-4
     add-i
     loop-less
     loop-again

@@ -9,13 +9,18 @@ look-up-requires c κs = search needs
 
 place-over-requires : tie.Need-place-over-requires
 place-over-requires c κs =
-    let pre = c .before .before .before .before .before .before .before .pre in
-    (pre .0, (pre .1 .1 .0, (pre .1 .1 .1 .0, (pre .1 .1 .1 .1 .0, (pre .1 .1 .1 .1 .1, c .before .look-up .ensures)))))
+    let pre = c .before .before .before .before .before .before .before .pre in (
+      pre .0,
+      (
+        pre .1 .0,
+        (pre .1 .1 .0, (pre .1 .1 .1 .0, (pre .1 .1 .1 .1 .0, (pre .1 .1 .1 .1 .1 .0, (pre .1 .1 .1 .1 .1 .1, c .before .look-up .ensures))))),
+      ),
+    )
 
 word-at-requires : tie.Need-word-at-requires
 word-at-requires c κs =
     let pre = c .before .before .before .before .before .before .before .before .before .before .before .pre in
-    (pre .0 .limits, (pre .1 .1 .1 .1 .0, omega (arith, pre .1 .1 .1 .1 .1)))
+    (pre .0 .limits, (pre .1 .1 .1 .1 .0, omega (arith, pre .1 .1 .1 .1 .1 .0)))
 
 note-requires : tie.Need-note-requires
 note-requires c κs = search needs

@@ -15,19 +15,23 @@ use Rattle.image.specs.declared.Found.{Found}
 use Rattle.image.specs.Words.{Image, Shaped}
 use Rattle.image.specs.Slots.{validBit, currentBit, find, isAt}
 use Rattle.image.specs.Blocks.{full}
+use Rattle.image.proofs.Facts.{sound-facts}
 use Rattle.image.proofs.Reading.{entry-inside}
 use Rattle.flash.specs.Steps.{programmedAt, run, wordsIn}
 use Rattle.flash.specs.Placing.{entryAt, programsEntry, takesSlot, storesContents, fillsSlot, closesBlock, placing}
 use Rattle.flash.proofs.Stores.{counts-words, words-append}
 use Rattle.flash.proofs.Counts.{entry-count, closing-count, filling-count}
+use Rattle.flash.proofs.Filling.{Ready, Target}
+use Rattle.flash.proofs.Placed.{filled-placed}
+use Rattle.flash.proofs.Kept.{maps-kept}
 use Rattle.flash.proofs.CodeLaws.{still-shaped, found-inside, run-program, run-then}
 use Rattle.placing.proofs.place_over.Statement.{statement}
 use Rattle.placing.proofs.place_over.Tie as tie
 
--- what the calls leave, one after the other, is what the placing leaves
-placed :
+-- what the calls leave, one after the other, is what (a) to (f) leave
+filled :
     (geo : Geometry) (image : Image) (n : ℕ) (ws : List ℕ) (b i : ℕ)
-    {A B C D E F after : Image} {old : Found} {entry outdated retired at words : ℕ} →
+    {A B C D E F : Image} {old : Found} {entry outdated retired at : ℕ} →
     old ≡ find geo image n →
     entry ≡ entryAt geo image old →
     outdated ≡ cleared entry currentBit →
@@ -39,25 +43,35 @@ placed :
     D ≡ programmedAt C at (0xE0000000 + n) →
     E ≡ programmedAt D at (0xC0000000 + n) →
     F ≡ run geo E (programsEntry geo old retired) →
+    F ≡ run geo image (fillsSlot geo image (find geo image n) n ws b i)
+unfolding fillsSlot
+filled geo image n ws b i {A} {B} {C} {D} {E} o p q r h a b' c d e f =
+    rw (← o, ← p, ← q, ← r)
+    (run-then geo image _ _ a
+    (run-then geo A _ _ b'
+    (run-then geo B _ _ c
+    (run-then geo C (_ ∷ []) _ (run-program geo C d h refl)
+    (run-then geo D (_ ∷ []) _ (run-program geo D e h refl)
+    f)))))
+
+-- and with (g) it is what the placing leaves
+placed :
+    (geo : Geometry) (image : Image) (n : ℕ) (ws : List ℕ) (b i : ℕ) {F after : Image} {old : Found} {words : ℕ} →
+    old ≡ find geo image n →
+    F ≡ run geo image (fillsSlot geo image (find geo image n) n ws b i) →
     words ≡ wordsIn (closesBlock geo F b) →
     after ≡ run geo F (closesBlock geo F b) →
     (131 + 2 * one-if (isAt old) + words ≡ wordsIn (placing geo image n ws b i)) × (after ≡ run geo image (placing geo image n ws b i))
-unfolding fillsSlot placing
-placed geo image n ws b i {A} {B} {C} {D} {E} {F} {old = old} o p q r h a b' c d e f w g =
-    rw (← o, ← filled) (
-      omega (arith, words-append (fillsSlot geo image old n ws b i) (closesBlock geo F b), filling-count counts-words geo image old n ws b i),
-      run-then geo image (fillsSlot geo image old n ws b i) (closesBlock geo F b) filled g,
+unfolding placing
+placed geo image n ws b i {F} {old = old} o f w g =
+    rw (← f, o) (
+      omega (
+        arith,
+        words-append (fillsSlot geo image (find geo image n) n ws b i) (closesBlock geo F b),
+        filling-count counts-words geo image (find geo image n) n ws b i,
+      ),
+      run-then geo image (fillsSlot geo image (find geo image n) n ws b i) (closesBlock geo F b) f g,
     )
-  where
-    filled : F ≡ run geo image (fillsSlot geo image old n ws b i)
-    filled =
-        rw (← p, ← q, ← r)
-        (run-then geo image _ _ a
-        (run-then geo A _ _ b'
-        (run-then geo B _ _ c
-        (run-then geo C (_ ∷ []) _ (run-program geo C d h refl)
-        (run-then geo D (_ ∷ []) _ (run-program geo D e h refl)
-        f)))))
 
 -- the slot's entry lies in the image
 inside : (c : tie.After-entries-start) →
@@ -65,7 +79,7 @@ inside : (c : tie.After-entries-start) →
     c .entries-start .result + start .args .i < length (start .args .image .now)
 inside c =
     let start = c .before .before .before in
-    omega (arith, entry-inside _ _ (start .pre .0) {i = start .args .i} (start .pre .1 .1 .1 .0) (start .pre .1 .1 .1 .1 .0))
+    omega (arith, entry-inside _ _ (start .pre .0) {i = start .args .i} (start .pre .1 .1 .1 .1 .0) (start .pre .1 .1 .1 .1 .1 .0))
 
 -- the calls before a place
 abbrev entering : tie.After-take-slot → tie.After-entries-start
@@ -127,6 +141,59 @@ old-words c =
       one-if-le (isAt old),
     )
 
+-- the image after (f)
+six : (c : tie.After-program-entry2) →
+    let a = starting (taking (storing (beginning (completing c)))) .args in
+    c .program-entry2 .last .0 ≡ run (a .geo) (a .image .now) (fillsSlot (a .geo) (a .image .now) (find (a .geo) (a .image .now) (a .n)) (a .n) (a .words .now) (a .b) (a .i))
+six c =
+    let second = completing c in
+    let first = beginning second in
+    let before = storing first in
+    let taken = taking before in
+    let outdated = taken .before .before in
+    let found = entering taken in
+    let args = starting taken .args in
+    let at : found .entries-start .result + args .i ≡ place (args .geo) (args .b) (entryWord (args .geo) (args .i)) =
+    omega (arith, found .entries-start .ensures) in
+    filled (args .geo) (args .image .now) (args .n) (args .words .now) (args .b) (args .i)
+    (starting taken .pre .1 .1 .1 .1 .1 .1 .1)
+    (outdated .before .entry-at .ensures)
+    (outdated .clear-bit .ensures)
+    (c .before .clear-bit2 .ensures)
+    at
+    (taken .take-slot .ensures)
+    (outdating before .program-entry .ensures .1)
+    (before .store-contents .ensures)
+    (first .program .ensures)
+    (second .program2 .ensures)
+    (c .program-entry2 .ensures .1)
+
+-- what the placing starts from, as the laws want it
+ready : (c : tie.After-program-entry2) → let a = starting (taking (storing (beginning (completing c)))) .args in Ready (a .geo) (a .image .now)
+ready c =
+    let known = entering (taking (storing (beginning (completing c)))) .before in
+    let start = known .before .before in
+    record {
+      shaped = start .pre .0;
+      words = record { small = λ q. known .before .slice-known .given q .fits };
+      sound = sound-facts _ _ (start .pre .1 .0);
+    }
+
+target : (c : tie.After-program-entry2) →
+    let a = starting (taking (storing (beginning (completing c)))) .args in Target (a .geo) (a .image .now) (a .n) (a .words .now) (a .b) (a .i)
+target c =
+    let known = entering (taking (storing (beginning (completing c)))) .before in
+    let start = known .before .before in
+    let pre = start .pre .1 .1 in
+    record {
+      number = pre .0;
+      long = pre .1 .0;
+      words = record { small = λ q. known .shared-slice-known .given q .fits };
+      block = pre .1 .1 .0;
+      slot-of = pre .1 .1 .1 .0;
+      free = pre .1 .1 .1 .1 .0;
+    }
+
 entries-start-requires : tie.Need-entries-start-requires
 entries-start-requires c κs = search needs
 
@@ -136,7 +203,7 @@ add-entry c = omega (arith, inside c)
 entry-at-requires : tie.Need-entry-at-requires
 entry-at-requires c κs =
     let start = c .before .before .before .before in
-    (start .pre .0, found-inside _ _ _ (start .pre .1 .1 .1 .1 .1))
+    (start .pre .0, found-inside _ _ _ (start .pre .1 .1 .1 .1 .1 .1 .1))
 
 clear-bit-requires : tie.Need-clear-bit-requires
 clear-bit-requires c κs = search needs
@@ -147,7 +214,7 @@ take-slot-requires c κs = search needs
 program-entry-requires : tie.Need-program-entry-requires
 program-entry-requires c κs =
     let taken = c .before .before .before in
-    (still-shaped _ (starting taken .pre .0) (taken .take-slot .kept .0), found-inside _ _ _ (starting taken .pre .1 .1 .1 .1 .1))
+    (still-shaped _ (starting taken .pre .0) (taken .take-slot .kept .0), found-inside _ _ _ (starting taken .pre .1 .1 .1 .1 .1 .1 .1))
 
 store-contents-requires : tie.Need-store-contents-requires
 store-contents-requires c κs = search needs
@@ -176,7 +243,7 @@ clear-bit-requires-2 c κs = search needs
 program-entry-requires-2 : tie.Need-program-entry-requires-2
 program-entry-requires-2 c κs =
     let before = c .before .before .before .before in
-    (completed before, found-inside _ _ _ (starting (taking (storing (beginning before))) .pre .1 .1 .1 .1 .1))
+    (completed before, found-inside _ _ _ (starting (taking (storing (beginning before))) .pre .1 .1 .1 .1 .1 .1 .1))
 
 add-result : tie.Need-add-result
 add-result c = omega (arith, old-words (c .before .before))
@@ -186,8 +253,13 @@ add-result-2 c = omega (arith, old-words (c .before .before))
 
 close-block-requires : tie.Need-close-block-requires
 close-block-requires c κs =
-    let before = c .before .before .before in
-    (retired before, starting (taking (storing (beginning (completing before)))) .pre .1 .1 .1 .0)
+    let last = c .before .before .before in
+    let start = starting (taking (storing (beginning (completing last)))) in
+    let a = start .args in
+    let p = filled-placed (a .geo) (a .image .now) (a .n) (a .words .now) (a .b) (a .i) (ready last) (target last) in
+    let maps = maps-kept (a .geo) (a .image .now) _ (a .n) (a .words .now) (a .b) (a .i) (ready last) (target last) p in
+    let block = start .pre .1 .1 .1 .1 .0 in
+    (retired last, (rw (six last) (p .current), (block, rw (six last) (maps (a .b) block))))
 
 add-result-3 : tie.Need-add-result-3
 add-result-3 c =
@@ -210,28 +282,12 @@ returns : tie.Need-returns
 returns c =
     let closed = c .before .before .close-block in
     let last = c .before .before .before .before .before .before in
-    let second = completing last in
-    let first = beginning second in
-    let before = storing first in
-    let taken = taking before in
-    let outdated = taken .before .before in
-    let found = entering taken in
-    let args = starting taken .args in
-    let at : found .entries-start .result + args .i ≡ place (args .geo) (args .b) (entryWord (args .geo) (args .i)) =
-    omega (arith, found .entries-start .ensures) in
+    let start = starting (taking (storing (beginning (completing last)))) in
+    let a = start .args in
     let p =
-    placed (args .geo) (args .image .now) (args .n) (args .words .now) (args .b) (args .i)
-    (starting taken .pre .1 .1 .1 .1 .1)
-    (outdated .before .entry-at .ensures)
-    (outdated .clear-bit .ensures)
-    (last .before .clear-bit2 .ensures)
-    at
-    (taken .take-slot .ensures)
-    (outdating before .program-entry .ensures .1)
-    (before .store-contents .ensures)
-    (first .program .ensures)
-    (second .program2 .ensures)
-    (last .program-entry2 .ensures .1)
+    placed (a .geo) (a .image .now) (a .n) (a .words .now) (a .b) (a .i)
+    (start .pre .1 .1 .1 .1 .1 .1 .1)
+    (six last)
     (closed .ensures .0)
     (closed .ensures .1) in
     (omega (arith, old-words last, p .0), p .1)

@@ -1,11 +1,10 @@
 -- `rules::map_agrees` meets its contract: the test passes at every slot passed, and decides at the first where it fails.
-use mathlib.Core.Path.{_≡_, refl, sym, _∙_}
-use mathlib.Core.Bool.{Bool, true, Bool·beq}
+use mathlib.Core.Path.{_≡_, refl, sym, ap, _∙_}
+use mathlib.Core.Bool.{Bool, true, not, _&&_, Bool·not-not}
 use mathlib.Core.List.{List}
 use Prim.Native.Nat.{ℕ, _+_, _-_, _/_, _%_, _<_, _≤_}
 use native.Mathlib.Omega.{arith}
 use borrow.Author.Needs.{needs}
-use borrow.Author.Tests.{not-true, not-false}
 use lib.Dec.{eqb}
 use lib.ListN.{length, getD}
 use Rattle.ranges.specs.Range.{allBelow}
@@ -20,13 +19,12 @@ use Rattle.rules.proofs.RuleLaws.{all-more, agrees-read}
 use Rattle.rules.proofs.map_agrees.Statement.{statement}
 use Rattle.rules.proofs.map_agrees.Tie as tie
 
--- the test of slot i, as the code reads it
-abbrev agrees : List ℕ → ℕ → ℕ → ℕ → Bool
-agrees image map entries i =
-    Bool·beq (isSet (getD image (map + i / 32) 0) (i % 32)) (eqb (getD image (entries + i) 0) ones)
+-- that slot i fails the test, as the code reads it
+abbrev fails : List ℕ → ℕ → ℕ → ℕ → Bool
+fails image map entries i = isSet (getD image (map + i / 32) 0) (i % 32) && not (eqb (getD image (entries + i) 0) ones)
 
 abbrev Inv-loop : tie.InvT-loop
-Inv-loop image b d map entries i₀ i = (i ≤ d) × (allBelow i (agrees image map entries) ≡ true)
+Inv-loop image b d map entries i₀ i = (i ≤ d) × (allBelow i (λ j. not (fails image map entries j)) ≡ true)
 
 abbrev μ-loop : tie.MeasureT-loop
 μ-loop image b d map entries i₀ i = d - i
@@ -71,38 +69,38 @@ cast-is-set c = omega arith
 is-set-requires : tie.Need-is-set-requires Inv-loop μ-loop
 is-set-requires c κs = search needs
 
-add-free : tie.Need-add-free Inv-loop μ-loop
-add-free c = omega (arith, entry-room (c .before .before))
+add-used : tie.Need-add-used Inv-loop μ-loop
+add-used c = omega (arith, entry-room (c .before .before))
 
-mul-free : tie.Need-mul-free Inv-loop μ-loop
-mul-free c = omega (arith, entry-room (c .before .before))
+mul-used : tie.Need-mul-used Inv-loop μ-loop
+mul-used c = omega (arith, entry-room (c .before .before))
 
-shared-slice-read-free : tie.Need-shared-slice-read-free Inv-loop μ-loop
-shared-slice-read-free c = omega (arith, entry-room (c .before .before .before))
+shared-slice-read-used : tie.Need-shared-slice-read-used Inv-loop μ-loop
+shared-slice-read-used c = omega (arith, entry-room (c .before .before .before))
 
 -- the test over all slots is the rule
 rule : (c : tie.At-loop Inv-loop μ-loop)
     → let start = c .before .before .before .before .before in
-    allBelow (c .before .before .before .d .result) (agrees (start .args .image .now) (c .before .before .map-start .result) (c .before .entries-start .result))
+    allBelow (c .before .before .before .d .result) (λ j. not (fails (start .args .image .now) (c .before .before .map-start .result) (c .before .entries-start .result) j))
     ≡ mapAgrees (start .args .geo) (start .args .image .now) (start .args .b)
 rule c =
     let start = c .before .before .before .before .before in
     rw (c .before .before .before .d .ensures)
     (all-ext (d (start .args .geo))
-    (λ i l. agrees-read _ _ (start .args .b) i _ _ (omega arith) (omega arith)))
+    (λ i l. ap not (agrees-read _ _ (start .args .b) i _ _ (omega arith) (omega arith)) ∙ Bool·not-not _))
 
--- what the branch tests is the test of slot i
+-- what the branch tests
 decided : (c : tie.After-shared-slice-known3 Inv-loop μ-loop)
     → let turn = c .before .before .before .before in
     let start = turn .before .before .before .before .before in
     let e = getD (start .args .image .now) (turn .before .entries-start .result + turn .loop .i) 0 in
-    Bool·beq (c .before .is-set .result) (eqb e ones) ≡ agrees (start .args .image .now) (turn .before .before .map-start .result) (turn .before .entries-start .result) (turn .loop .i)
+    (c .before .is-set .result && not (eqb e ones)) ≡ fails (start .args .image .now) (turn .before .before .map-start .result) (turn .before .entries-start .result) (turn .loop .i)
 decided c = rw (c .before .is-set .ensures)
 
 returns : tie.Need-returns Inv-loop μ-loop
 returns c =
     let turn = c .before .before .before .before .before in
-    sym (not-all _ _ (c .before .before .before .before .loop-test .taken) (sym (decided (c .before)) ∙ not-true _ (c .if1 .taken))) ∙ rule turn
+    sym (not-all _ _ (c .before .before .before .before .loop-test .taken) (ap not (sym (decided (c .before)) ∙ c .if1 .taken))) ∙ rule turn
 
 add-i : tie.Need-add-i Inv-loop μ-loop
 add-i c = omega arith
@@ -113,7 +111,7 @@ loop-less c = omega arith
 loop-again : tie.Need-loop-again Inv-loop μ-loop
 loop-again c =
     let turn = c .before .before .before .before .before in
-    (omega arith, all-more (turn .loop .i) _ (turn .loop .inv .1) (sym (decided (c .before)) ∙ not-false _ (c .if1 .left)))
+    (omega arith, all-more (turn .loop .i) _ (turn .loop .inv .1) (ap not (sym (decided (c .before)) ∙ c .if1 .left)))
 
 returns-2 : tie.Need-returns-2 Inv-loop μ-loop
 returns-2 c =
@@ -136,9 +134,9 @@ map-agrees-spec =
     shared-slice-read-is-set
     cast-is-set
     is-set-requires
-    add-free
-    mul-free
-    shared-slice-read-free
+    add-used
+    mul-used
+    shared-slice-read-used
     returns
     add-i
     loop-less

@@ -1,54 +1,55 @@
 -- `rules::rule3` meets its contract: the test passes at every slot passed, and the first free slot with a word that is not ones decides.
 use mathlib.Core.Path.{_≡_, refl, sym, _∙_}
 use mathlib.Core.Logic.{⊎-elim}
-use mathlib.Core.Bool.{true, false}
-use Prim.Native.Nat.{_+_, _-_, _<_, _≤_}
+use mathlib.Core.Bool.{true}
+use Prim.Native.Nat.{_-_, _≤_}
 use native.Mathlib.Omega.{arith}
 use borrow.Author.Needs.{needs}
 use borrow.Author.Tests.{not-true, not-false}
-use lib.ListN.{length}
-use Rattle.ranges.specs.Range.{allBelow}
+use Rattle.ranges.specs.Range.{_implies_, allBelow}
 use Rattle.ranges.proofs.Tests.{not-all}
 use Rattle.geometry.specs.Geometry.{d}
-use Rattle.geometry.specs.Places.{place, entryWord}
-use Rattle.image.specs.WellFormed.{R3}
-use Rattle.image.proofs.Reading.{entry-inside}
-use Rattle.rules.proofs.RuleLaws.{all-more, clean, clean-taken, clean-free}
+use Rattle.image.specs.declared.Slot.{Slot}
+use Rattle.image.specs.Words.{contents}
+use Rattle.image.specs.Slots.{isFree}
+use Rattle.image.specs.WellFormed.{allOnes, R3}
+use Rattle.rules.proofs.RuleLaws.{all-more, clean, clean-kind}
 use Rattle.rules.proofs.rule3.Statement.{statement}
 use Rattle.rules.proofs.rule3.Tie as tie
 
 abbrev Inv-loop : tie.InvT-loop
-Inv-loop image geo b d entries i₀ i = (i ≤ d) × (allBelow i (clean geo image b) ≡ true)
+Inv-loop image geo b d i₀ i = (i ≤ d) × (allBelow i (clean geo image b) ≡ true)
 
 abbrev μ-loop : tie.MeasureT-loop
-μ-loop image geo b d entries i₀ i = d - i
+μ-loop image geo b d i₀ i = d - i
 
 d-requires : tie.Need-d-requires Inv-loop μ-loop
 d-requires c κs = search needs
-
-entries-start-requires : tie.Need-entries-start-requires Inv-loop μ-loop
-entries-start-requires c κs = search needs
 
 loop-holds : tie.Need-loop-holds Inv-loop μ-loop
 unfolding allBelow
 loop-holds c = (omega arith, refl)
 
--- the entry of slot i lies in the image
-entry-room : (c : tie.In-loop Inv-loop μ-loop)
-    → let start = c .before .before .before .before .before in
-    place (start .args .geo) (start .args .b) (entryWord (start .args .geo) (c .before .loop .i)) < length (start .args .image .now)
-entry-room c =
-    let start = c .before .before .before .before .before in
-    entry-inside _ _ (start .pre .0) (start .pre .1) (omega arith)
+own-slot-requires : tie.Need-own-slot-requires Inv-loop μ-loop
+own-slot-requires c κs = search needs
 
-add-if1 : tie.Need-add-if1 Inv-loop μ-loop
-add-if1 c = omega (arith, entry-room c)
+-- the test of slot i, by the kind that the match finds
+module _ (c : tie.After-own-slot Inv-loop μ-loop) where
+  abbrev turn : tie.At-loop Inv-loop μ-loop
+  turn = c .before .before
 
-mul-if1 : tie.Need-mul-if1 Inv-loop μ-loop
-mul-if1 c = omega (arith, entry-room c)
+  abbrev start : tie.Start Inv-loop μ-loop
+  start = turn .before .before .before
 
-shared-slice-read-if1 : tie.Need-shared-slice-read-if1 Inv-loop μ-loop
-shared-slice-read-if1 c = omega (arith, entry-room (c .before))
+  clean-is :
+      {s : Slot} →
+      c .own-slot .result ≡ s →
+      clean (start .args .geo) (start .args .image .now) (start .args .b) (turn .loop .i)
+      ≡ (isFree s implies allOnes (contents (start .args .geo) (start .args .image .now) (start .args .b) (turn .loop .i)))
+  clean-is kind = clean-kind _ _ (start .args .b) (turn .loop .i) (sym (c .own-slot .ensures) ∙ kind)
+
+enum-told : tie.Need-enum-told Inv-loop μ-loop
+enum-told c = search needs
 
 contents-clean-requires : tie.Need-contents-clean-requires Inv-loop μ-loop
 contents-clean-requires c κs = search needs
@@ -57,14 +58,22 @@ returns : tie.Need-returns Inv-loop μ-loop
 unfolding R3
 returns c =
     let found = c .before .before in
-    let turn = found .before .before .before in
-    let start = turn .before .before .before .before in
-    let at = turn .before .entries-start .result + turn .loop .i in
-    let dirty : clean (start .args .geo) (start .args .image .now) (start .args .b) (turn .loop .i) ≡ false =
-    clean-free _ _ _ (turn .loop .i) at (omega arith) (found .if1 .taken)
-    ∙ sym (c .before .contents-clean .ensures)
-    ∙ not-true _ (c .if2 .taken) in
-    sym (not-all (d (start .args .geo)) _ (omega arith) dirty)
+    let here = found .before .before in
+    sym
+    (not-all (d (start here .args .geo)) _ (omega arith)
+    (clean-is here (found .enum-told .given .1) ∙ sym (c .before .contents-clean .ensures) ∙ not-true _ (c .if1 .taken)))
+
+enum-told-2 : tie.Need-enum-told-2 Inv-loop μ-loop
+enum-told-2 c = search needs
+
+enum-told-3 : tie.Need-enum-told-3 Inv-loop μ-loop
+enum-told-3 c = search needs
+
+enum-told-4 : tie.Need-enum-told-4 Inv-loop μ-loop
+enum-told-4 c = search needs
+
+enum-told-5 : tie.Need-enum-told-5 Inv-loop μ-loop
+enum-told-5 c = search needs
 
 add-i : tie.Need-add-i Inv-loop μ-loop
 add-i c = omega arith
@@ -74,22 +83,22 @@ loop-less c = omega arith
 
 loop-again : tie.Need-loop-again Inv-loop μ-loop
 loop-again c =
-    let turn = c .before .before .before in
-    let start = turn .before .before .before .before in
-    let at = turn .before .entries-start .result + turn .loop .i in
-    let here : clean (start .args .geo) (start .args .image .now) (start .args .b) (turn .loop .i) ≡ true =
+    let here = c .before in
+    let loop = turn here .loop in
+    let passes =
     ⊎-elim
-    (λ w. clean-free _ _ _ (turn .loop .i) at (omega arith) (w .0 .taken) ∙ sym (w .1 .ensures) ∙ not-false _ (w .2 .left))
-    (λ w. clean-taken _ _ _ (turn .loop .i) at (omega arith) (w .left))
-    (c .if1 .came) in
-    (omega arith, all-more (turn .loop .i) _ (turn .loop .inv .1) here)
+    (λ w. clean-is here (w .1 .given .1) ∙ sym (w .2 .ensures) ∙ not-false _ (w .3 .left))
+    (⊎-elim
+    (λ w. clean-is here (w .1 .given .1))
+    (⊎-elim (λ w. clean-is here (w .1 .given .1)) (⊎-elim (λ w. clean-is here (w .1 .given .1)) (λ w. clean-is here (w .1 .given .1)))))
+    (c .match .came) in
+    (omega arith, all-more (loop .i) _ (loop .inv .1) passes)
 
 returns-2 : tie.Need-returns-2 Inv-loop μ-loop
 unfolding R3
 returns-2 c =
     let turn = c .before in
-    let start = turn .before .before .before .before in
-    let end : turn .loop .i ≡ d (start .args .geo) = omega arith in
+    let end : turn .loop .i ≡ d (turn .before .before .before .args .geo) = omega arith in
     sym (rw end at (turn .loop .inv .1))
 
 pub rule3-spec : {M : Type 1} → statement M
@@ -99,13 +108,15 @@ rule3-spec =
     Inv-loop
     μ-loop
     d-requires
-    entries-start-requires
     loop-holds
-    add-if1
-    mul-if1
-    shared-slice-read-if1
+    own-slot-requires
+    enum-told
     contents-clean-requires
     returns
+    enum-told-2
+    enum-told-3
+    enum-told-4
+    enum-told-5
     add-i
     loop-less
     loop-again

@@ -1,67 +1,47 @@
 -- `rules::rule4` meets its contract: no slot passed is a fault, and the first that is decides.
-use mathlib.Core.Path.{_≡_, refl, sym, ap, _∙_}
+use mathlib.Core.Path.{_≡_, refl, sym, _∙_}
 use mathlib.Core.Logic.{⊎-elim}
 use mathlib.Core.Bool.{true, not}
-use Prim.Native.Nat.{_-_, _<_, _≤_}
+use Prim.Native.Nat.{_-_, _≤_}
 use native.Mathlib.Omega.{arith}
 use borrow.Author.Needs.{needs}
-use lib.ListN.{length}
 use Rattle.ranges.specs.Range.{allBelow}
 use Rattle.ranges.proofs.Tests.{not-all}
 use Rattle.geometry.specs.Geometry.{d}
-use Rattle.geometry.specs.Places.{place, entryWord}
 use Rattle.image.specs.declared.Slot.{Slot}
-use Rattle.image.specs.Slots.{slot, isFaulty}
+use Rattle.image.specs.Slots.{isFaulty}
 use Rattle.image.specs.WellFormed.{R4}
-use Rattle.image.proofs.Reading.{entry-inside, slot-read}
-use Rattle.rules.proofs.RuleLaws.{all-more}
+use Rattle.rules.proofs.RuleLaws.{all-more, proper, proper-kind}
 use Rattle.rules.proofs.rule4.Statement.{statement}
 use Rattle.rules.proofs.rule4.Tie as tie
 
 abbrev Inv-loop : tie.InvT-loop
-Inv-loop image geo b d base i₀ i = (i ≤ d) × (allBelow i (λ n. not (isFaulty (slot geo image b n))) ≡ true)
+Inv-loop image geo b d i₀ i = (i ≤ d) × (allBelow i (proper geo image b) ≡ true)
 
 abbrev μ-loop : tie.MeasureT-loop
-μ-loop image geo b d base i₀ i = d - i
+μ-loop image geo b d i₀ i = d - i
 
 d-requires : tie.Need-d-requires Inv-loop μ-loop
 d-requires c κs = search needs
-
-entries-start-requires : tie.Need-entries-start-requires Inv-loop μ-loop
-entries-start-requires c κs = search needs
 
 loop-holds : tie.Need-loop-holds Inv-loop μ-loop
 unfolding allBelow
 loop-holds c = (omega arith, refl)
 
--- the entry of slot i lies in the image
-room : (c : tie.In-loop Inv-loop μ-loop)
-    → let start = c .before .before .before .before .before in
-    place (start .args .geo) (start .args .b) (entryWord (start .args .geo) (c .before .loop .i)) < length (start .args .image .now)
-room c =
-    let start = c .before .before .before .before .before in
-    entry-inside _ _ (start .pre .0) (start .pre .1) (omega arith)
+own-slot-requires : tie.Need-own-slot-requires Inv-loop μ-loop
+own-slot-requires c κs = search needs
 
-add-slot-of : tie.Need-add-slot-of Inv-loop μ-loop
-add-slot-of c = omega (arith, room c)
+-- the test of slot i, by the kind that the match finds
+module _ (c : tie.After-own-slot Inv-loop μ-loop) where
+  abbrev turn : tie.At-loop Inv-loop μ-loop
+  turn = c .before .before
 
-mul-slot-of : tie.Need-mul-slot-of Inv-loop μ-loop
-mul-slot-of c = omega (arith, room c)
+  abbrev start : tie.Start Inv-loop μ-loop
+  start = turn .before .before .before
 
-shared-slice-read-slot-of : tie.Need-shared-slice-read-slot-of Inv-loop μ-loop
-shared-slice-read-slot-of c = omega (arith, room (c .before))
-
-slot-of-requires : tie.Need-slot-of-requires Inv-loop μ-loop
-slot-of-requires c κs = search needs
-
--- slot i is of the kind that the match finds
-slot-is : (c : tie.After-slot-of Inv-loop μ-loop) {s : Slot} → c .slot-of .result ≡ s
-    → let turn = c .before .before .before in
-    let start = turn .before .before .before .before in
-    slot (start .args .geo) (start .args .image .now) (start .args .b) (turn .loop .i) ≡ s
-slot-is c kind =
-    let turn = c .before .before .before in
-    sym (c .slot-of .ensures ∙ slot-read _ _ _ (turn .loop .i) _ (omega arith)) ∙ kind
+  proper-is :
+      {s : Slot} → c .own-slot .result ≡ s → proper (start .args .geo) (start .args .image .now) (start .args .b) (turn .loop .i) ≡ not (isFaulty s)
+  proper-is kind = proper-kind _ _ (start .args .b) (turn .loop .i) (sym (c .own-slot .ensures) ∙ kind)
 
 enum-told : tie.Need-enum-told Inv-loop μ-loop
 enum-told c = search needs
@@ -69,9 +49,8 @@ enum-told c = search needs
 returns : tie.Need-returns Inv-loop μ-loop
 unfolding R4
 returns c =
-    let turn = c .before .before .before .before .before in
-    let geo = turn .before .before .before .before .args .geo in
-    sym (not-all (d geo) _ (omega arith) (ap (λ s. not (isFaulty s)) (slot-is (c .before .before) (c .enum-told .given .1))))
+    let here = c .before .before in
+    sym (not-all (d (start here .args .geo)) _ (omega arith) (proper-is here (c .enum-told .given .1)))
 
 enum-told-2 : tie.Need-enum-told-2 Inv-loop μ-loop
 enum-told-2 c = search needs
@@ -82,6 +61,9 @@ enum-told-3 c = search needs
 enum-told-4 : tie.Need-enum-told-4 Inv-loop μ-loop
 enum-told-4 c = search needs
 
+enum-told-5 : tie.Need-enum-told-5 Inv-loop μ-loop
+enum-told-5 c = search needs
+
 add-i : tie.Need-add-i Inv-loop μ-loop
 add-i c = omega arith
 
@@ -90,22 +72,20 @@ loop-less c = omega arith
 
 loop-again : tie.Need-loop-again Inv-loop μ-loop
 loop-again c =
-    let loop = c .before .before .before .before .loop in (
-      omega arith,
-      all-more (loop .i) _ (loop .inv .1)
-          (⊎-elim
-          (λ w. ap (λ s. not (isFaulty s)) (slot-is (c .before) (w .1 .given .1)))
-          (⊎-elim
-          (λ w. ap (λ s. not (isFaulty s)) (slot-is (c .before) (w .1 .given .1)))
-          (λ w. ap (λ s. not (isFaulty s)) (slot-is (c .before) (w .1 .given .1))))
-          (c .match .came)),
-    )
+    let here = c .before in
+    let loop = turn here .loop in
+    let passes =
+    ⊎-elim
+    (λ w. proper-is here (w .1 .given .1))
+    (⊎-elim (λ w. proper-is here (w .1 .given .1)) (⊎-elim (λ w. proper-is here (w .1 .given .1)) (λ w. proper-is here (w .1 .given .1))))
+    (c .match .came) in
+    (omega arith, all-more (loop .i) _ (loop .inv .1) passes)
 
 returns-2 : tie.Need-returns-2 Inv-loop μ-loop
 unfolding R4
 returns-2 c =
     let turn = c .before in
-    let end : turn .loop .i ≡ d (turn .before .before .before .before .args .geo) = omega arith in
+    let end : turn .loop .i ≡ d (turn .before .before .before .args .geo) = omega arith in
     sym (rw end at (turn .loop .inv .1))
 
 pub rule4-spec : {M : Type 1} → statement M
@@ -115,17 +95,14 @@ rule4-spec =
     Inv-loop
     μ-loop
     d-requires
-    entries-start-requires
     loop-holds
-    add-slot-of
-    mul-slot-of
-    shared-slice-read-slot-of
-    slot-of-requires
+    own-slot-requires
     enum-told
     returns
     enum-told-2
     enum-told-3
     enum-told-4
+    enum-told-5
     add-i
     loop-less
     loop-again

@@ -18,7 +18,7 @@ use Rattle.image.specs.Words.{eraseCount}
 use Rattle.image.specs.Slots.{slot, isFree, isLive, isDead}
 use Rattle.image.specs.Blocks.{freeSlots, liveSlots, deadSlots, tally}
 use Rattle.image.specs.WellFormed.{ceiling, wellFormed}
-use Rattle.image.proofs.Facts.{sound-facts}
+use Rattle.image.proofs.Facts.{sound-facts, formed-sound}
 use Rattle.shellwaltz.proofs.add_up.Statement.{statement}
 use Rattle.shellwaltz.proofs.add_up.Tie as tie
 
@@ -89,7 +89,9 @@ unfolding sumBelow
 loop-holds c = (omega arith, refl, refl, refl, refl)
 
 tally-requires : tie.Need-tally-requires Inv-loop μ-loop
-tally-requires c κs = search needs
+tally-requires c κs =
+    let start = c .before .before .before .before in
+    (start .pre .0, (formed-sound _ _ (start .pre .1), omega arith))
 
 add-mapped : tie.Need-add-mapped Inv-loop μ-loop
 add-mapped c = omega (arith, counted (c .before))

@@ -30,7 +30,9 @@ loop-holds c =
     (omega arith, refl, gone .ensures ∙ rw (start .pre .1 .1))
 
 note-block-requires : tie.Need-note-block-requires Inv-loop μ-loop
-note-block-requires c κs = search needs
+note-block-requires c κs =
+    let start = c .before .before .before .before .before .before .before .before .before .before in
+    (start .pre .0, (sound-facts _ _ (start .pre .1 .0) .current, omega arith))
 
 add-b : tie.Need-add-b Inv-loop μ-loop
 add-b c = omega arith

@@ -1,15 +1,18 @@
 -- `tables::confirmed` meets its contract: the slot that a word tells is one of its block, so its entry lies in the image where its block does.
-use mathlib.Core.Path.{sym}
+use mathlib.Core.Path.{refl, sym}
 use Prim.Native.Nat.{_+_, _/_, _%_, _<_}
 use native.Mathlib.Omega.{arith}
 use lib.ListN.{length}
 use borrow.Author.Needs.{needs}
 use borrow.Author.Tests.{le-ltb, lt-ltb}
+use Rattle.bits.specs.Word.{isSet}
 use Rattle.geometry.specs.Geometry.{d}
+use Rattle.geometry.specs.Places.{place, mapWord}
 use Rattle.geometry.proofs.Laws.{logical-small}
 use Rattle.image.specs.Words.{word}
 use Rattle.image.proofs.Entries.{live-test}
-use Rattle.image.proofs.Reading.{entry-inside, slot-read}
+use Rattle.image.proofs.Own.{each-own}
+use Rattle.image.proofs.Reading.{entry-inside, own-read}
 use Rattle.tables.proofs.Laws.{told-slot}
 use Rattle.tables.proofs.confirmed.Statement.{statement}
 use Rattle.tables.proofs.confirmed.Tie as tie
@@ -51,30 +54,38 @@ rem-at c = search needs
 add-at : tie.Need-add-at
 add-at c = rw (c .before .before .d .ensures) (omega (arith, inside c))
 
-mul-result : tie.Need-mul-result
-mul-result c = rw (c .before .before .d .ensures) (omega (arith, inside c))
+mul-clear-bit : tie.Need-mul-clear-bit
+mul-clear-bit c = rw (c .before .before .d .ensures) (omega (arith, inside c))
 
-shared-slice-read-result : tie.Need-shared-slice-read-result
-shared-slice-read-result c = rw (c .before .before .before .d .ensures) (omega (arith, inside (c .before)))
+shared-slice-read-clear-bit : tie.Need-shared-slice-read-clear-bit
+shared-slice-read-clear-bit c = rw (c .before .before .before .d .ensures) (omega (arith, inside (c .before)))
+
+clear-bit-requires : tie.Need-clear-bit-requires
+clear-bit-requires c κs = search needs
 
 add-result : tie.Need-add-result
-add-result c = let start = c .before .before .before .before .before .before in omega (arith, logical-small (start .args .geo) (start .pre .0 .limits))
+add-result c =
+    let start = c .before .before .before .before .before .before .before in
+    omega (arith, logical-small (start .args .geo) (start .pre .0 .limits))
 
 returns-2 : tie.Need-returns-2
 returns-2 c =
-    let start = c .before .before .before .before .before .before in
+    let start = c .before .before .before .before .before .before .before in
     let geo = start .args .geo in
     let image = start .args .image .now in
-    let size = c .before .before .before .d .ensures in
-    let block : start .args .word / d geo < geo .blocks = rw size at (c .before .before .if1 .left) in
-    let at = c .before .entries-start .result + start .args .word % d geo in
-    let from = rw size at (c .before .entries-start .ensures) in
-    rw (lt-ltb _ _ block, size, ← slot-read geo image (start .args .word / d geo) (start .args .word % d geo) at (omega (arith, from)))
+    let size = c .before .before .before .before .d .ensures in
+    let block : start .args .word / d geo < geo .blocks = rw size at (c .before .before .before .if1 .left) in
+    let i = start .args .word % d geo in
+    let at = c .before .before .entries-start .result + i in
+    let map = place geo (start .args .word / d geo) (mapWord i) in
+    let from = rw size at (c .before .before .entries-start .ensures) in
+    rw (lt-ltb _ _ block, c .clear-bit .ensures, size, each-own (start .pre .1 .0) block (told-slot geo (start .pre .0 .limits) (start .args .word)))
+    (rw (← own-read geo image (start .args .word / d geo) i at map (omega (arith, from)) refl)
     (sym
-    (live-test (geo .logical) (word image at) (start .args .n)
-    (c .shared-slice-known2 .given at .fits)
-    (start .pre .1)
-    (omega (arith, logical-small geo (start .pre .0 .limits)))))
+    (live-test (geo .logical) (isSet (word image map) (i % 32)) (word image at) (start .args .n)
+    (c .before .shared-slice-known2 .given at .fits)
+    (start .pre .1 .1)
+    (omega (arith, logical-small geo (start .pre .0 .limits))))))
 
 pub confirmed-spec : {M : Type 1} → statement M
 confirmed-spec =
@@ -87,7 +98,8 @@ confirmed-spec =
     entries-start-requires
     rem-at
     add-at
-    mul-result
-    shared-slice-read-result
+    mul-clear-bit
+    shared-slice-read-clear-bit
+    clear-bit-requires
     add-result
     returns-2)

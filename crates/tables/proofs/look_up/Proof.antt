@@ -20,7 +20,9 @@ cast-word : tie.Need-cast-word
 cast-word c = omega (arith, c .shared-slice-known3 .given (c .before .before .before .before .args .n) .fits)
 
 confirmed-requires : tie.Need-confirmed-requires
-confirmed-requires c κs = search needs
+confirmed-requires c κs =
+    let start = c .before .before .before .before in
+    (start .pre .0, (sound-facts _ _ (start .pre .1 .1) .current, start .pre .1 .0))
 
 d-requires : tie.Need-d-requires
 d-requires c κs = search needs
@@ -42,7 +44,9 @@ returns c =
     (record { block = ltb-true _ _ (says .0); slot-of = told-slot geo (start .pre .0 .limits) _; live = live-for _ _ (says .1) })))
 
 find-requires : tie.Need-find-requires
-find-requires c κs = search needs
+find-requires c κs =
+    let start = c .before .before .before in
+    (start .pre .0, (sound-facts _ _ (start .pre .1 .1) .current, start .pre .1 .0))
 
 returns-2 : tie.Need-returns-2
 returns-2 c = search needs

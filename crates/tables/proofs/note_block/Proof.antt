@@ -5,6 +5,7 @@ use Prim.Native.Nat.{_-_, _≤_}
 use native.Mathlib.Omega.{arith}
 use lib.ListN.{length}
 use borrow.Author.Needs.{needs}
+use Rattle.image.proofs.Own.{each-own}
 use Rattle.tables.specs.Tables.{blockNoted}
 use Rattle.tables.proofs.Laws.{block-next}
 use Rattle.tables.proofs.note_block.Statement.{statement}
@@ -23,8 +24,8 @@ loop-holds : tie.Need-loop-holds Inv-loop μ-loop
 unfolding blockNoted
 loop-holds c = (omega arith, refl, refl)
 
-slot-at-requires : tie.Need-slot-at-requires Inv-loop μ-loop
-slot-at-requires c κs = search needs
+own-slot-requires : tie.Need-own-slot-requires Inv-loop μ-loop
+own-slot-requires c κs = search needs
 
 enum-known-n : tie.Need-enum-known-n Inv-loop μ-loop
 enum-known-n c = search needs
@@ -44,6 +45,9 @@ enum-told-2 c = search needs
 enum-told-3 : tie.Need-enum-told-3 Inv-loop μ-loop
 enum-told-3 c = search needs
 
+enum-told-4 : tie.Need-enum-told-4 Inv-loop μ-loop
+enum-told-4 c = search needs
+
 add-i : tie.Need-add-i Inv-loop μ-loop
 add-i c = omega arith
 
@@ -54,7 +58,8 @@ loop-again : tie.Need-loop-again Inv-loop μ-loop
 loop-again c =
     let turn = c .before .before .before in
     let l = turn .loop in
-    let this = sym (c .before .slot-at .ensures) in
+    let start = turn .before .before .before .before in
+    let this = each-own (start .pre .1 .0) (start .pre .1 .1) (omega arith) ∙ sym (c .before .own-slot .ensures) in
     ⊎-elim
     (λ w.
     rw (w .8) (omega arith, w .5 .kept .0 ∙ l .inv .1, w .5 .ensures ∙ rw (w .4 .ensures, block-next _ _ _ _ _ (this ∙ w .1 .given .1), ← l .inv .2)))
@@ -62,7 +67,9 @@ loop-again c =
     (λ w. rw (w .2) (omega arith, l .inv .1, l .inv .2 ∙ sym (block-next _ _ _ _ _ (this ∙ w .1 .given .1))))
     (⊎-elim
     (λ w. rw (w .2) (omega arith, l .inv .1, l .inv .2 ∙ sym (block-next _ _ _ _ _ (this ∙ w .1 .given .1))))
-    (λ w. rw (w .2) (omega arith, l .inv .1, l .inv .2 ∙ sym (block-next _ _ _ _ _ (this ∙ w .1 .given .1))))))
+    (⊎-elim
+    (λ w. rw (w .2) (omega arith, l .inv .1, l .inv .2 ∙ sym (block-next _ _ _ _ _ (this ∙ w .1 .given .1))))
+    (λ w. rw (w .2) (omega arith, l .inv .1, l .inv .2 ∙ sym (block-next _ _ _ _ _ (this ∙ w .1 .given .1)))))))
     (c .match .came)
 
 same-length : tie.Need-same-length Inv-loop μ-loop
@@ -82,13 +89,14 @@ note-block-spec =
     μ-loop
     d-requires
     loop-holds
-    slot-at-requires
+    own-slot-requires
     enum-known-n
     word-at-requires
     note-requires
     enum-told
     enum-told-2
     enum-told-3
+    enum-told-4
     add-i
     loop-less
     loop-again

@@ -1,8 +1,8 @@
--- `image::slots::find` meets its contract: no slot that the search has passed is live for n, so the first whose entry is the word
--- of n is the definition's, and where there is none the definition finds nothing.
+-- `image::slots::find` meets its contract: no slot that the search has passed is live for n, so the first whose entry, without bit 30, is the
+-- word of n is the definition's, and where there is none the definition finds nothing.
 use mathlib.Core.Bool.{false}
 use mathlib.Core.Path.{_≡_, refl, sym, _∙_}
-use Prim.Native.Nat.{ℕ, _+_, _-_, _<_, _≤_}
+use Prim.Native.Nat.{ℕ, _+_, _-_, _%_, _<_, _≤_}
 use native.Mathlib.Omega.{arith}
 use lib.Dec.{eqb}
 use lib.ListN.{length}
@@ -13,9 +13,12 @@ use Rattle.ranges.proofs.Tests.{none-of}
 use Rattle.geometry.proofs.Laws.{logical-small}
 use Rattle.image.specs.declared.Found.the-variants.{Nothing}
 use Rattle.image.specs.Words.{word}
+use Rattle.bits.specs.Word.{isSet}
+use Rattle.geometry.specs.Places.{place, mapWord}
 use Rattle.image.specs.Slots.{slot, isLiveFor, liveIn}
 use Rattle.image.proofs.Entries.{live-test}
-use Rattle.image.proofs.Reading.{entry-inside, slot-read}
+use Rattle.image.proofs.Own.{each-own}
+use Rattle.image.proofs.Reading.{entry-inside, own-read}
 use Rattle.image.proofs.Finding.{find-none, find-at}
 use Rattle.image.proofs.slots.find.Statement.{statement}
 use Rattle.image.proofs.slots.find.Tie as tie
@@ -44,25 +47,28 @@ inside c =
     let start = block .before .before .before .before .before .before in
     omega (arith, entry-inside _ _ (start .pre .0) {i = c .before .loop .i} (block .before .scan-test .taken) (omega arith))
 
--- its slot is live for n exactly when it is the word that the code wants
-live-here : (c : tie.After-shared-slice-known2 Inv-loop μ-loop Inv-scan μ-scan) →
-    let block = c .before .before .before in
+-- its slot is live for n exactly when it is, without bit 30, the word that the code wants
+live-here : (c : tie.After-clear-bit Inv-loop μ-loop Inv-scan μ-scan) →
+    let block = c .before .before .before .before in
     let start = block .before .before .before .before .before .before in
     let image = start .args .image .now in
-    let i = c .before .before .loop .i in
+    let i = c .before .before .before .loop .i in
     isLiveFor (start .args .n) (slot (start .args .geo) image (block .before .before .scan .b) i)
-    ≡ eqb (word image (block .entries-start .result + i)) (0xC0000000 + start .args .n)
+    ≡ eqb (c .clear-bit .result) (0x80000000 + start .args .n)
 live-here c =
-    let block = c .before .before .before in
+    let block = c .before .before .before .before in
     let start = block .before .before .before .before .before .before in
     let geo = start .args .geo in
     let image = start .args .image .now in
-    let at = block .entries-start .result + c .before .before .loop .i in
-    rw (← slot-read geo image (block .before .before .scan .b) (c .before .before .loop .i) at (omega arith))
-    (live-test (geo .logical) (word image at) (start .args .n)
-    (c .shared-slice-known2 .given at .fits)
-    (start .pre .1)
-    (omega (arith, logical-small geo (start .pre .0 .limits))))
+    let b = block .before .before .scan .b in
+    let i = c .before .before .before .loop .i in
+    let at = block .entries-start .result + i in
+    rw (each-own (start .pre .1 .0) {b = b} {i = i} (block .before .scan-test .taken) (omega arith))
+    (rw (← own-read geo image b i at (place geo b (mapWord i)) (omega arith) refl, c .clear-bit .ensures)
+    (live-test (geo .logical) (isSet (word image (place geo b (mapWord i))) (i % 32)) (word image at) (start .args .n)
+    (c .before .shared-slice-known2 .given at .fits)
+    (start .pre .1 .1)
+    (omega (arith, logical-small geo (start .pre .0 .limits)))))
 
 cast-blocks : tie.Need-cast-blocks Inv-loop μ-loop Inv-scan μ-scan
 cast-blocks c = omega arith
@@ -82,14 +88,17 @@ entries-start-requires c κs = search needs
 loop-holds : tie.Need-loop-holds Inv-loop μ-loop Inv-scan μ-scan
 loop-holds c = (omega arith, c .before .before .scan .inv .1, below-none _)
 
-add-if1 : tie.Need-add-if1 Inv-loop μ-loop Inv-scan μ-scan
-add-if1 c = omega (arith, inside c)
+add-clear-bit : tie.Need-add-clear-bit Inv-loop μ-loop Inv-scan μ-scan
+add-clear-bit c = omega (arith, inside c)
 
-mul-if1 : tie.Need-mul-if1 Inv-loop μ-loop Inv-scan μ-scan
-mul-if1 c = omega (arith, inside c)
+mul-clear-bit : tie.Need-mul-clear-bit Inv-loop μ-loop Inv-scan μ-scan
+mul-clear-bit c = omega (arith, inside c)
 
-shared-slice-read-if1 : tie.Need-shared-slice-read-if1 Inv-loop μ-loop Inv-scan μ-scan
-shared-slice-read-if1 c = omega (arith, inside (c .before))
+shared-slice-read-clear-bit : tie.Need-shared-slice-read-clear-bit Inv-loop μ-loop Inv-scan μ-scan
+shared-slice-read-clear-bit c = omega (arith, inside (c .before))
+
+clear-bit-requires : tie.Need-clear-bit-requires Inv-loop μ-loop Inv-scan μ-scan
+clear-bit-requires c κs = search needs
 
 add-i : tie.Need-add-i Inv-loop μ-loop Inv-scan μ-scan
 add-i c = omega arith
@@ -99,7 +108,7 @@ loop-less c = omega arith
 
 loop-again : tie.Need-loop-again Inv-loop μ-loop Inv-scan μ-scan
 loop-again c =
-    let l = c .before .before .before .loop in
+    let l = c .before .before .before .before .loop in
     (omega arith, l .inv .1, below-more _ _ (l .inv .2) (live-here (c .before) ∙ ne-eqb _ _ (c .if1 .left)))
 
 add-b : tie.Need-add-b Inv-loop μ-loop Inv-scan μ-scan
@@ -119,7 +128,7 @@ returns c = let s = c .before .scan in s .inv .1 ∙ sym (find-none _ _ _ (λ b 
 
 returns-2 : tie.Need-returns-2 Inv-loop μ-loop Inv-scan μ-scan
 returns-2 c =
-    let turn = c .before .before in
+    let turn = c .before .before .before in
     let block = turn .before .before .before in
     sym
     (find-at _ _ _ _ _
@@ -143,9 +152,10 @@ find-spec =
     scan-holds
     entries-start-requires
     loop-holds
-    add-if1
-    mul-if1
-    shared-slice-read-if1
+    add-clear-bit
+    mul-clear-bit
+    shared-slice-read-clear-bit
+    clear-bit-requires
     add-i
     loop-less
     loop-again

@@ -9,12 +9,14 @@ use Rattle.geometry.specs.declared.Geometry.{Geometry}
 use Rattle.geometry.specs.Geometry.{d}
 use Rattle.geometry.proofs.Laws.{d-positive}
 use Rattle.image.specs.declared.Found.the-variants.{At}
+use Rattle.image.specs.declared.Slot.the-variants.{Free}
 use Rattle.image.specs.Words.{Image}
+use Rattle.image.specs.Slots.{slot}
 use Rattle.image.specs.Blocks.{lowestFree}
 use Rattle.image.specs.WellFormed.{MapsAgree, wellFormed}
 use Rattle.image.proofs.Facts.{sound-facts, sound-maps, formed-sound, formed-blank}
 use Rattle.flash.specs.Writing.{nextSlot}
-use Rattle.flash.proofs.Planned.{open-slot, blank-block, next-open, next-blank, filling-next, table-next}
+use Rattle.flash.proofs.Planned.{open-slot, open-slot-free, blank-block, blank-slot-free, next-open, next-blank, filling-next, table-next}
 use Rattle.writing.proofs.filling.fill.Statement.{statement}
 use Rattle.writing.proofs.filling.fill.Tie as tie
 
@@ -41,11 +43,12 @@ least-worn-blank-requires c κs =
     let start = c .before .before .before .before .before .before .before .before in
     (start .pre .0, formed-maps _ _ (start .pre .1 .0))
 
--- the block and the slot, either way: they are in the image, and they are those of the next write
+-- the block and the slot, either way: they are in the image, they are those of the next write, and the slot is free
 found : (c : tie.Joined1) →
     let start = c .before .before .before .before .before .before .before in
     let geo = start .args .geo in
-    (c .if1 .b < geo .blocks) × (c .if1 .i < d geo) × (nextSlot geo (start .args .image .now) ≡ At (c .if1 .b) (c .if1 .i))
+    let image = start .args .image .now in
+    (c .if1 .b < geo .blocks) × (c .if1 .i < d geo) × (nextSlot geo image ≡ At (c .if1 .b) (c .if1 .i)) × (slot geo image (c .if1 .b) (c .if1 .i) ≡ Free)
 found c =
     let start = c .before .before .before .before .before .before .before in
     let geo = start .args .geo in
@@ -56,13 +59,19 @@ found c =
     let block : opened .result < geo .blocks = omega (arith, w .0 .taken) in
     let slot-is = w .2 .ensures ∙ ap (lowestFree geo image) (opened .ensures) in
     let inside = open-slot geo image (omega (arith, opened .ensures)) in
-    rw (w .3, w .4) (block, omega (arith, slot-is, inside), next-open _ _ (opened .result) (w .2 .result) (opened .ensures) (w .2 .ensures) block))
+    rw (w .3, w .4) (
+      block,
+      omega (arith, slot-is, inside),
+      next-open _ _ (opened .result) (w .2 .result) (opened .ensures) (w .2 .ensures) block,
+      rw (slot-is, opened .ensures) (open-slot-free geo image (omega (arith, opened .ensures))),
+    ))
     (λ w.
     let block = blank-block geo image (formed-blank geo image (start .pre .1 .0)) in
     rw (w .3, w .4) (
       omega (arith, w .2 .ensures),
       omega (arith, d-positive geo (start .pre .0 .limits)),
       next-blank _ _ (w .2 .result) (w .2 .ensures) (omega (arith, opened .ensures, w .0 .left)),
+      rw (w .2 .ensures) (blank-slot-free geo image (formed-blank geo image (start .pre .1 .0)) (d-positive geo (start .pre .0 .limits))),
     ))
     (c .if1 .came)
 
@@ -70,7 +79,7 @@ place-requires : tie.Need-place-requires
 place-requires c κs =
     let start = c .before .before .before .before .before .before .before .before .before in
     let f = found (c .before .before) in
-    (start .pre .0, (formed-sound _ _ (start .pre .1 .0), (start .pre .1 .1 .0, (start .pre .1 .1 .1, (f .0, omega (arith, f .1))))))
+    (start .pre .0, (formed-sound _ _ (start .pre .1 .0), (start .pre .1 .1 .0, (start .pre .1 .1 .1, (f .0, (omega (arith, f .1), f .3))))))
 
 same-length : tie.Need-same-length
 same-length c = search needs

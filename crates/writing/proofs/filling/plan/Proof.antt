@@ -4,13 +4,14 @@ use native.Mathlib.Omega.{arith}
 use borrow.Author.Needs.{needs}
 use borrow.Author.Tests.{not-true, not-false}
 use Rattle.image.specs.Words.{eraseCount}
+use Rattle.image.proofs.Facts.{sound-facts, sound-maps}
 use Rattle.flash.specs.declared.Plan.the-variants.{Reclaim}
 use Rattle.flash.proofs.Planned.{fill-planned, worn-planned, reclaim-planned}
 use Rattle.writing.proofs.filling.plan.Statement.{statement}
 use Rattle.writing.proofs.filling.plan.Tie as tie
 
 must-reclaim-requires : tie.Need-must-reclaim-requires
-must-reclaim-requires c κs = search needs
+must-reclaim-requires c κs = let start = c .before in (start .pre .0, sound-maps _ _ (sound-facts _ _ (start .pre .1 .0)))
 
 returns : tie.Need-returns
 returns c =

@@ -19,7 +19,7 @@ use Rattle.flash.specs.declared.Plan.the-variants.{Reclaim}
 use Rattle.flash.proofs.Filling.{Ready}
 use Rattle.flash.proofs.Planned.{plan-says}
 use Rattle.flash.proofs.Stores.{run-append, words-append}
-use Rattle.flash.proofs.Written.{Reclaimable, Sector, victim-reclaimable, blank-in, victim-in-place, reclaim-ready, reclaim-blank, reclaiming-wrote}
+use Rattle.flash.proofs.Written.{Reclaimable, Sector, victim-reclaimable, blank-in, victim-in-turn, reclaim-ready, reclaim-blank, reclaiming-wrote}
 use Rattle.writing.proofs.filling.reclaim_and_fill.Statement.{statement}
 use Rattle.writing.proofs.filling.reclaim_and_fill.Tie as tie
 
@@ -107,7 +107,7 @@ reclaim-requires c κs =
         omega (arith, able .block, least, blank),
         (
           omega (arith, able .block, least, blank),
-          (omega (arith, least), (omega (arith, able .wearable), rw least (victim-in-place geo image set must (start .args .v) able))),
+          (omega (arith, least), (omega (arith, able .wearable), rw least (victim-in-turn geo image set must (start .args .v) able))),
         ),
       ),
     )

@@ -1,6 +1,7 @@
 -- `writing::reclaiming::copy_live` meets its contract: after the slots passed the image, the words, the slots taken and the table are what
 -- the definition's steps so far leave and count, and what it notes of them.
 use mathlib.Core.Logic.{⊎-elim}
+use mathlib.Core.Bool.{true}
 use mathlib.Core.List.{List}
 use mathlib.Core.Path.{_≡_, refl, sym, _∙_}
 use Prim.Native.Nat.{ℕ, _+_, _-_, _≤_, _<_}
@@ -12,17 +13,20 @@ use Rattle.geometry.specs.declared.Geometry.{Geometry}
 use Rattle.geometry.specs.Geometry.{d}
 use Rattle.image.specs.declared.Found.the-variants.{At}
 use Rattle.image.specs.declared.Slot.{Slot}
-use Rattle.image.specs.declared.Slot.the-variants.{Live}
+use Rattle.image.specs.declared.Slot.the-variants.{Free, Live}
 use Rattle.image.specs.Words.{Image, Shaped, contents}
-use Rattle.image.specs.Slots.{slot, find}
+use Rattle.image.specs.Slots.{ownSlot, slot, find}
+use Rattle.image.specs.WellFormed.{sound}
+use Rattle.image.proofs.Own.{each-own, live-number}
+use Rattle.image.proofs.Facts.{sound-facts}
 use Rattle.tables.specs.Tables.{Table, noted, slotNoted}
 use Rattle.flash.specs.Steps.{run, wordsIn}
 use Rattle.flash.specs.Placing.{placing}
-use Rattle.flash.specs.Writing.{FoundInPlace, copiedSlot, copying}
+use Rattle.flash.specs.Writing.{EachInTurn, copiedSlot, copying}
 use Rattle.flash.specs.Tables.{tableCopied}
 use Rattle.flash.proofs.Stores.{run-append, words-append}
 use Rattle.flash.proofs.CodeLaws.{still-shaped}
-use Rattle.placing.proofs.BoundLaws.{live-number, placing-most, copying-most}
+use Rattle.placing.proofs.BoundLaws.{placing-most, copying-most}
 use Rattle.writing.proofs.reclaiming.copy_live.Statement.{statement}
 use Rattle.writing.proofs.reclaiming.copy_live.Tie as tie
 
@@ -48,9 +52,20 @@ module _
     unfolding tableCopied
     next-table e = rw (add-one, ← before .image-is, e, ← before .table-is, ← before .taken-is)
 
-    -- a live slot is where its number is found now
-    in-place : {n : ℕ} → FoundInPlace geo image₀ v t → i < d geo → slot geo image v i ≡ Live n → At v i ≡ find geo image n
-    in-place {n} turns l e = sym (rw (before .image-is) (turns .at-its-turn i n l (rw (before .image-is) at e)))
+    -- the image is sound, a live slot is where its number is found now, and the slot that it goes to is free
+    module _ (turns : EachInTurn geo image₀ v t) (l : i < d geo) where
+      still-sound : sound geo image ≡ true
+      still-sound = rw (before .image-is) (turns .sound-then i l)
+
+      -- and so it is what its own entry and map bit say
+      own-now : v < geo .blocks → slot geo image v i ≡ ownSlot geo image v i
+      own-now block = each-own (sound-facts geo image still-sound .current) block l
+
+      in-place : {n : ℕ} → slot geo image v i ≡ Live n → At v i ≡ find geo image n
+      in-place {n} e = sym (rw (before .image-is) (turns .found-there i n l (rw (before .image-is) at e)))
+
+      has-room : {n : ℕ} → slot geo image v i ≡ Live n → slot geo image t taken ≡ Free
+      has-room {n} e = rw (before .taken-is, before .image-is) (turns .room-there i n l (rw (before .image-is) at e))
 
     -- a slot that changes nothing
     passed :
@@ -113,7 +128,10 @@ live : (c : tie.After-n Inv-loop μ-loop) →
     let turn = c .before .before .before .before .before in
     let a = turn .before .before .before .before .args in
     slot (a .geo) (turn .loop .image) (a .v) (turn .loop .i) ≡ Live (c .n .given .0 .0)
-live c = sym (c .before .before .slot-at .ensures) ∙ c .n .given .1
+live c =
+    let turn = c .before .before .before .before .before in
+    let pre = turn .before .before .before .before .pre in
+    own-now (turn .loop .inv .1) (pre .1 .1 .1) (omega arith) (pre .1 .0) ∙ sym (c .before .before .own-slot .ensures) ∙ c .n .given .1
 
 d-requires : tie.Need-d-requires Inv-loop μ-loop
 d-requires c κs = search needs
@@ -123,8 +141,8 @@ unfolding copying tableCopied run wordsIn
 loop-holds c =
     (omega arith, record { image-is = refl; words-is = refl; taken-is = refl; table-is = refl; long = refl; table-long = refl })
 
-slot-at-requires : tie.Need-slot-at-requires Inv-loop μ-loop
-slot-at-requires c κs = (shaped (c .before .before), omega arith)
+own-slot-requires : tie.Need-own-slot-requires Inv-loop μ-loop
+own-slot-requires c κs = (shaped (c .before .before), omega arith)
 
 enum-known-n : tie.Need-enum-known-n Inv-loop μ-loop
 enum-known-n c = search needs
@@ -143,15 +161,17 @@ place-over-requires : tie.Need-place-over-requires Inv-loop μ-loop
 place-over-requires c κs =
     let buffer = c .before .before .before in
     let known = buffer .before .before .before .before in
-    let turn = known .before .before .before .before .before in (
+    let turn = known .before .before .before .before .before in
+    let v = turn .loop .inv .1 in
+    let turns = turn .before .before .before .before .pre .1 .1 .1 in (
       shaped turn,
       (
-        live-number _ _ _ _ _ (live known),
+        still-sound v turns (omega arith),
         (
-          buffer .copy-contents .kept .1 .1 .1 .1 .0,
+          live-number _ _ _ _ (live known),
           (
-            omega arith,
-            (omega (arith, room turn), in-place (turn .loop .inv .1) (turn .before .before .before .before .pre .1 .1 .1) (omega arith) (live known)),
+            buffer .copy-contents .kept .1 .1 .1 .1 .0,
+            (omega arith, (omega (arith, room turn), (has-room v turns (omega arith) (live known), in-place v turns (omega arith) (live known)))),
           ),
         ),
       ),
@@ -197,6 +217,9 @@ enum-told-2 c = search needs
 enum-told-3 : tie.Need-enum-told-3 Inv-loop μ-loop
 enum-told-3 c = search needs
 
+enum-told-4 : tie.Need-enum-told-4 Inv-loop μ-loop
+enum-told-4 c = search needs
+
 add-i : tie.Need-add-i Inv-loop μ-loop
 add-i c = omega arith
 
@@ -207,7 +230,8 @@ loop-again : tie.Need-loop-again Inv-loop μ-loop
 loop-again c =
     let turn = c .before .before .before .before in
     let v = turn .loop .inv .1 in
-    let this = sym (c .before .slot-at .ensures) in (
+    let pre = turn .before .before .before .before .pre in
+    let this = own-now v (pre .1 .1 .1) (omega arith) (pre .1 .0) ∙ sym (c .before .own-slot .ensures) in (
       omega arith,
       ⊎-elim
           (λ w.
@@ -218,7 +242,9 @@ loop-again c =
           (λ w. rw (w .2, w .3, w .4, w .5) (passed v (next v (this ∙ w .1 .given .1)) (next-table v (this ∙ w .1 .given .1))))
           (⊎-elim
           (λ w. rw (w .2, w .3, w .4, w .5) (passed v (next v (this ∙ w .1 .given .1)) (next-table v (this ∙ w .1 .given .1))))
-          (λ w. rw (w .2, w .3, w .4, w .5) (passed v (next v (this ∙ w .1 .given .1)) (next-table v (this ∙ w .1 .given .1))))))
+          (⊎-elim
+          (λ w. rw (w .2, w .3, w .4, w .5) (passed v (next v (this ∙ w .1 .given .1)) (next-table v (this ∙ w .1 .given .1))))
+          (λ w. rw (w .2, w .3, w .4, w .5) (passed v (next v (this ∙ w .1 .given .1)) (next-table v (this ∙ w .1 .given .1)))))))
           (c .match .came),
     )
 
@@ -243,7 +269,7 @@ copy-live-spec =
     μ-loop
     d-requires
     loop-holds
-    slot-at-requires
+    own-slot-requires
     enum-known-n
     slice-aggregate-copy-contents
     copy-contents-requires
@@ -256,6 +282,7 @@ copy-live-spec =
     enum-told
     enum-told-2
     enum-told-3
+    enum-told-4
     add-i
     loop-less
     loop-again
