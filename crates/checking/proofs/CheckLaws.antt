@@ -1,15 +1,17 @@
 -- R2 to R5 of a block in one pass over its slots, by their own kinds. Assumes nothing.
-use mathlib.Core.Path.{_≡_, refl, sym, ap, _∙_}
+use mathlib.Core.Path.{_≡_, refl, sym, ap, ap₂, _∙_}
 use mathlib.Core.Bool.{Bool, true, false, not, _&&_, and-true, and-false}
 use Prim.Native.Nat.{ℕ, zero, suc}
-use Rattle.ranges.specs.Range.{_implies_, allBelow}
+use Rattle.ranges.specs.Range.{allBelow}
 use Rattle.ranges.proofs.Tests.{both-pass}
 use Rattle.geometry.specs.declared.Geometry.{Geometry}
 use Rattle.geometry.specs.Geometry.{d}
 use Rattle.image.specs.declared.Slot.{Slot}
-use Rattle.image.specs.Words.{Image, contents}
-use Rattle.image.specs.Slots.{ownSlot, isFree, isFaulty, isLiveWith}
+use Rattle.image.specs.declared.Slot.the-variants.{Free}
+use Rattle.image.specs.Words.{Image, mapBit, entry, contents}
+use Rattle.image.specs.Slots.{slotOf, ownSlot, isFree, isFreeEntry, isFaulty, isLiveWith}
 use Rattle.image.specs.WellFormed.{allOnes, mapAgrees, restSet, liveBefore, noneTwice, R2, R3, R4}
+use Rattle.image.proofs.Entries.{free-test}
 use Rattle.rules.proofs.RuleLaws.{agrees, clean, proper, clean-kind, proper-kind}
 use Rattle.checking.specs.OwnKinds.{fourByOwn}
 
@@ -33,14 +35,34 @@ module _ (geo : Geometry) (image : Image) where
       && proper geo image b i
       && not (isLiveWith (liveBefore geo (ownSlot geo image) b i) (ownSlot geo image b i))
 
-  -- what is left of them where the map agrees with a slot whose own kind is known
-  pub keeps-kind :
-      (b i : ℕ) {s : Slot} →
-      agrees geo image b i ≡ true →
-      ownSlot geo image b i ≡ s →
-      keeps b i
-      ≡ ((isFree s implies allOnes (contents geo image b i)) && not (isFaulty s) && not (isLiveWith (liveBefore geo (ownSlot geo image) b i) s))
-  keeps-kind b i agree kind = rw (agree, clean-kind geo image b i kind, proper-kind geo image b i kind, kind)
+  -- what is left of them for a slot whose bit is set: it is to be free, and clean
+  module _ (b i : ℕ) (set : mapBit geo image b i ≡ true) where
+    pub own-free : isFreeEntry (entry geo image b i) ≡ true → ownSlot geo image b i ≡ Free
+    unfolding ownSlot slotOf
+    own-free free = rw (set, free)
+
+    pub set-keeps : keeps b i ≡ (isFreeEntry (entry geo image b i) && allOnes (contents geo image b i))
+    set-keeps = go (isFreeEntry (entry geo image b i)) refl
+      where
+        go : (f : Bool) → isFreeEntry (entry geo image b i) ≡ f → keeps b i ≡ (f && allOnes (contents geo image b i))
+        go true free =
+            let kind = own-free free in
+            rw (set, free, clean-kind geo image b i kind, proper-kind geo image b i kind, kind) (and-true _ ∙ and-true _)
+        go false used = rw (set, used)
+
+  -- and for one whose bit is clear, by its own kind, which is not free
+  module _ (b i : ℕ) (clear : mapBit geo image b i ≡ false) where
+    pub own-used : {e : ℕ} → entry geo image b i ≡ e → ownSlot geo image b i ≡ slotOf (geo .logical) false e
+    unfolding ownSlot
+    own-used at = ap₂ (slotOf (geo .logical)) clear at
+
+    pub used-keeps :
+        {s : Slot} →
+        ownSlot geo image b i ≡ s →
+        keeps b i ≡ (not (isFaulty s) && not (isLiveWith (liveBefore geo (ownSlot geo image) b i) s))
+    used-keeps {s} kind =
+        let used : isFree s ≡ false = ap isFree (sym kind ∙ own-used refl) ∙ free-test _ false _ ∙ and-false (isFreeEntry (entry geo image b i)) in
+        rw (clear, clean-kind geo image b i kind, used, proper-kind geo image b i kind, kind)
 
   -- with the map's bits from d on they are the four rules
   pub keeps-rules : (b : ℕ) → restSet geo image b ≡ true → allBelow (d geo) (keeps b) ≡ fourByOwn geo image b

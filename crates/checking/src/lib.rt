@@ -1,11 +1,12 @@
 // What is wrong with an image: the first block and rule that fail. A sound image is passed over once, by the slots' own kinds; only where that
 // finds something wrong, the slower walk of `naming` says what it is.
-ghost use mathlib.Core.Bool.{true};
+ghost use mathlib.Core.Bool.{true, _&&_};
 ghost use mathlib.Core.Path.{_≡_};
 ghost use Prim.Native.Nat.{suc, _<_};
-ghost use Rattle.image.specs.Words.{Shaped};
-ghost use Rattle.image.specs.Slots.{ownSlot};
-ghost use Rattle.image.specs.WellFormed.{sound};
+ghost use Rattle.geometry.specs.Geometry.{d};
+ghost use Rattle.image.specs.Words.{Shaped, contents};
+ghost use Rattle.image.specs.Slots.{ownSlot, isFreeEntry};
+ghost use Rattle.image.specs.WellFormed.{allOnes, sound};
 ghost use Rattle.image.specs.Faults.{firstFault};
 ghost use Rattle.rules.specs.Marks.{Marks};
 ghost use Rattle.checking.specs.OwnKinds.{fourByOwn, soundByOwn};
@@ -21,8 +22,21 @@ use rules::own_rule7;
 use rules::rest_set;
 use rules::rule1;
 
-// R2 to R5 in one pass over the slots, by their own kinds, of which none is superseded. The marks know the earlier blocks' numbers and learn
-// this one's.
+// What R2 and R3 ask of slot i of block b where its map bit is set: it is free by its entry too, and its contents are ones.
+fn free_kept(image: &[u32], geo: Geometry, b: usize, i: usize, entry: u32) -> bool
+    requires { ⌜ Shaped geo (now image) ⌝ }
+    requires { ⌜ b < geo .blocks ⌝ }
+    requires { ⌜ i < d geo ⌝ }
+    ensures { λ r. ⌜ r ≡ (isFreeEntry entry && allOnes (contents geo (now (image .entry)) b i)) ⌝ }
+{
+    if entry != 0xFFFF_FFFF {
+        return false;
+    }
+    contents_clean(image, geo, b, i)
+}
+
+// R2 to R5 in one pass over the slots, by their own kinds, of which none is superseded, and none free where the map bit is clear. The marks know
+// the earlier blocks' numbers and learn this one's.
 fn rules_2_to_5(image: &[u32], geo: Geometry, b: usize, marks: &mut [u32]) -> bool
     requires { ⌜ Shaped geo (now image) ⌝ }
     requires { ⌜ b < geo .blocks ⌝ }
@@ -39,25 +53,24 @@ fn rules_2_to_5(image: &[u32], geo: Geometry, b: usize, marks: &mut [u32]) -> bo
     for i in 0..d {
         let entry = image[entries + i];
         let set = bits::is_set(image[map + i / 32], (i % 32) as u32);
-        if set & (entry != 0xFFFF_FFFF) {
-            return false;
-        }
-        match slot_of(geo.logical, set, entry) {
-            Slot::Free => {
-                if !contents_clean(image, geo, b, i) {
-                    return false;
-                }
-            }
-            Slot::Live(n) => {
-                if !mark(marks, n) {
-                    return false;
-                }
-            }
-            Slot::Dead => {}
-            Slot::Faulty => {
+        if set {
+            if !free_kept(image, geo, b, i, entry) {
                 return false;
             }
-            Slot::Superseded => {}
+        } else {
+            match slot_of(geo.logical, false, entry) {
+                Slot::Free => {}
+                Slot::Live(n) => {
+                    if !mark(marks, n) {
+                        return false;
+                    }
+                }
+                Slot::Dead => {}
+                Slot::Faulty => {
+                    return false;
+                }
+                Slot::Superseded => {}
+            }
         }
     }
     true

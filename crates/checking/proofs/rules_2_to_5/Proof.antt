@@ -4,28 +4,29 @@ use mathlib.Core.Path.{_≡_, refl, sym, ap, _∙_}
 use mathlib.Core.Logic.{⊎-elim}
 use mathlib.Core.Bool.{Bool, true, false, not, _&&_, false≢true}
 use mathlib.Core.List.{List}
-use Prim.Native.Nat.{ℕ, _+_, _-_, _<_, _≤_}
+use Prim.Native.Nat.{ℕ, _+_, _-_, _%_, _<_, _≤_}
 use native.Mathlib.Omega.{arith}
 use borrow.Author.Needs.{needs}
 use borrow.Author.Tests.{not-true, not-false}
 use lib.ListN.{length, getD}
-use Rattle.ranges.specs.Range.{_implies_, allBelow}
-use Rattle.ranges.proofs.Tests.{not-all}
+use Rattle.ranges.specs.Range.{allBelow}
+use Rattle.ranges.proofs.Tests.{both-pass, not-all}
+use Rattle.bits.specs.Word.{isSet}
 use Rattle.geometry.specs.Geometry.{d}
 use Rattle.geometry.specs.Places.{place, mapWord, entryWord}
 use Rattle.geometry.proofs.Laws.{map-covers, logical-small}
-use Rattle.image.specs.Words.{contents}
+use Rattle.image.specs.Words.{word, mapBit, entry, contents}
 use Rattle.image.specs.declared.Slot.{Slot}
 use Rattle.image.specs.declared.Slot.the-variants.{Live}
-use Rattle.image.specs.Slots.{slotOf, ownSlot, isFree, isFreeEntry, isFaulty, isLiveWith}
+use Rattle.image.specs.Slots.{slotOf, ownSlot, isFreeEntry, isFaulty, isLiveWith}
 use Rattle.image.specs.WellFormed.{allOnes, liveBefore}
 use Rattle.image.proofs.Entries.{live-parts}
-use Rattle.image.proofs.Reading.{map-inside, entry-inside, own-read}
+use Rattle.image.proofs.Reading.{map-inside, entry-inside}
 use Rattle.rules.specs.Marks.{seen, Marks}
-use Rattle.rules.proofs.RuleLaws.{all-more, agrees, agrees-read}
+use Rattle.rules.proofs.RuleLaws.{all-more, map-read}
 use Rattle.rules.proofs.MarkLaws.{marks-next, other-learnt, live-learnt}
 use Rattle.checking.specs.OwnKinds.{fourByOwn}
-use Rattle.checking.proofs.CheckLaws.{keeps, keeps-kind, keeps-rules, rest-breaks}
+use Rattle.checking.proofs.CheckLaws.{keeps, own-free, set-keeps, own-used, used-keeps, keeps-rules, rest-breaks}
 use Rattle.checking.proofs.rules_2_to_5.Statement.{statement}
 use Rattle.checking.proofs.rules_2_to_5.Tie as tie
 
@@ -116,104 +117,105 @@ cast-is-set c = omega arith
 is-set-requires : tie.Need-is-set-requires Inv-loop μ-loop
 is-set-requires c κs = search needs
 
--- what the branch tests is whether the map disagrees with slot i
+-- slot i, whose map bit and entry are read
 module _ (c : tie.After-is-set Inv-loop μ-loop) where
-  abbrev asked : tie.At-loop Inv-loop μ-loop
-  asked = c .before .before .before .before
-
-  abbrev agree : Bool
-  agree = agrees (start asked .args .geo) (start asked .args .image .now) (start asked .args .b) (asked .loop .i)
-
-  abbrev used : Bool
-  used = not (isFreeEntry (getD (start asked .args .image .now) (asked .before .entries-start .result + asked .loop .i) 0))
-
-  agree-is : (c .is-set .result && used) ≡ not agree
-  agree-is =
-      ap (λ (set : Bool). set && used) (c .is-set .ensures)
-      ∙ agrees-read _ _ (start asked .args .b) (asked .loop .i) _ _ (omega arith) (omega arith)
-
-same-length : tie.Need-same-length Inv-loop μ-loop
-same-length c = same-marks (c .before .before .before .before .before)
-
-returns-2 : tie.Need-returns-2 Inv-loop μ-loop
-returns-2 c =
-    let turn = c .before .before .before .before .before in
-    let differs : agree (c .before) ≡ false = not-true _ (sym (agree-is (c .before)) ∙ c .if2 .taken) in
-    (decides turn (omega arith) (rw differs), λ r. absurd (false≢true r))
-
-slot-of-requires : tie.Need-slot-of-requires Inv-loop μ-loop
-slot-of-requires c κs = search needs
-
--- slot i, whose kind is known and with which the map agrees
-module _ (c : tie.After-slot-of Inv-loop μ-loop) where
   abbrev turn : tie.At-loop Inv-loop μ-loop
-  turn = c .before .before .before .before .before .before
+  turn = c .before .before .before .before
 
   abbrev from : tie.Start Inv-loop μ-loop
   from = start turn
 
-  slot-is : {s : Slot} → c .slot-of .result ≡ s → ownSlot (from .args .geo) (from .args .image .now) (from .args .b) (turn .loop .i) ≡ s
-  slot-is kind =
-      sym
-      (c .slot-of .ensures
-      ∙ ap (λ (set : Bool). slotOf (from .args .geo .logical) set (getD (from .args .image .now) (turn .before .entries-start .result + turn .loop .i) 0))
-      (c .before .before .is-set .ensures)
-      ∙ own-read _ _ (from .args .b) (turn .loop .i) _ _ (omega arith) (omega arith))
-      ∙ kind
+  abbrev word-read : ℕ
+  word-read = getD (from .args .image .now) (turn .before .entries-start .result + turn .loop .i) 0
 
   inside : turn .loop .i < d (from .args .geo)
   inside = omega arith
 
-  -- what is left of the four tests
+  bit-is : mapBit (from .args .geo) (from .args .image .now) (from .args .b) (turn .loop .i) ≡ c .is-set .result
+  bit-is =
+      sym
+      (c .is-set .ensures
+      ∙ ap (λ (w : ℕ). isSet w (turn .loop .i % 32)) (map-read (from .args .geo) (from .args .image .now) (from .args .b) (turn .loop .i) _ (omega arith)))
+
+  entry-is : entry (from .args .geo) (from .args .image .now) (from .args .b) (turn .loop .i) ≡ word-read
+  unfolding entry
+  entry-is = ap (word (from .args .image .now)) (omega arith)
+
   abbrev kept : Bool
   kept = keeps (from .args .geo) (from .args .image .now) (from .args .b) (turn .loop .i)
 
-  keeps-is :
-      {s : Slot} →
-      c .slot-of .result ≡ s →
-      kept
-      ≡ ((isFree s implies allOnes (contents (from .args .geo) (from .args .image .now) (from .args .b) (turn .loop .i)))
-      && not (isFaulty s)
-      && not (isLiveWith (liveBefore (from .args .geo) (ownSlot (from .args .geo) (from .args .image .now)) (from .args .b) (turn .loop .i)) s))
-  keeps-is kind =
-      keeps-kind _ _ _ _ (not-false (agree (c .before .before)) (sym (agree-is (c .before .before)) ∙ c .before .if2 .left)) (slot-is kind)
-
-  -- a live number is one of the numbers, and was live before exactly where it was seen
-  number-small : (n : ℕ) → c .slot-of .result ≡ Live n → n < from .args .geo .logical
-  number-small n kind = live-parts _ _ _ n (sym (c .slot-of .ensures) ∙ kind) .2
-
-  live-keeps : (n : ℕ) → c .slot-of .result ≡ Live n → kept ≡ not (seen (turn .loop .marks) n)
-  live-keeps n kind = keeps-is kind ∙ sym (ap not (turn .loop .inv .1 .says n (number-small n kind)))
+  -- where the bit is set, this is all that is asked of it
+  set-is :
+      c .is-set .result ≡ true →
+      {r : Bool} →
+      r ≡ (isFreeEntry word-read && allOnes (contents (from .args .geo) (from .args .image .now) (from .args .b) (turn .loop .i))) →
+      kept ≡ r
+  set-is set e = set-keeps _ _ _ _ (bit-is ∙ set) ∙ sym (rw entry-is e)
 
   -- what the invariant asks after the turn
   abbrev Passed : List ℕ → Type 0
   Passed marks =
       Marks (from .args .geo) (ownSlot (from .args .geo) (from .args .image .now)) (from .args .b) (turn .loop .i + 1) marks × (kept ≡ true)
 
+  -- a slot that is not live leaves the marks
   other :
       {s : Slot} →
-      c .slot-of .result ≡ s →
+      ownSlot (from .args .geo) (from .args .image .now) (from .args .b) (turn .loop .i) ≡ s →
       ((f : ℕ → Bool) → isLiveWith f s ≡ false) →
+      kept ≡ true →
       (marks : List ℕ) →
       marks ≡ turn .loop .marks →
-      Marks (from .args .geo) (ownSlot (from .args .geo) (from .args .image .now)) (from .args .b) (turn .loop .i + 1) marks
-  other kind none marks e = rw e (other-learnt _ _ (turn .loop .inv .1) (λ f. ap (isLiveWith f) (slot-is kind) ∙ none f))
+      Passed marks
+  other kind none keep marks e = (rw e (other-learnt _ _ (turn .loop .inv .1) (λ f. ap (isLiveWith f) kind ∙ none f)), keep)
+
+free-kept-requires : tie.Need-free-kept-requires Inv-loop μ-loop
+free-kept-requires c κs = search needs
+
+same-length : tie.Need-same-length Inv-loop μ-loop
+same-length c = same-marks (turn (c .before .before .before))
+
+returns-2 : tie.Need-returns-2 Inv-loop μ-loop
+returns-2 c =
+    let here = c .before .before .before in
+    let broken = set-is here (c .before .before .if2 .taken) (c .before .free-kept .ensures) ∙ not-true _ (c .if3 .taken) in
+    (decides (turn here) (inside here) broken, λ r. absurd (false≢true r))
+
+slot-of-requires : tie.Need-slot-of-requires Inv-loop μ-loop
+slot-of-requires c κs = search needs
+
+-- one whose bit is clear, by its kind
+module _
+    (c : tie.After-is-set Inv-loop μ-loop) (clear : c .is-set .result ≡ false)
+    {s : Slot}
+    (kind : slotOf (from c .args .geo .logical) false (word-read c) ≡ s)
+  where
+    slot-is : ownSlot (from c .args .geo) (from c .args .image .now) (from c .args .b) (turn c .loop .i) ≡ s
+    slot-is = own-used _ _ _ _ (bit-is c ∙ clear) (entry-is c) ∙ kind
+
+    keeps-is :
+        kept c
+        ≡ (not (isFaulty s)
+        && not (isLiveWith (liveBefore (from c .args .geo) (ownSlot (from c .args .geo) (from c .args .image .now)) (from c .args .b) (turn c .loop .i)) s))
+    keeps-is = used-keeps _ _ _ _ (bit-is c ∙ clear) slot-is
+
+    used-other :
+        ((f : ℕ → Bool) → isLiveWith f s ≡ false) → isFaulty s ≡ false → (marks : List ℕ) → marks ≡ turn c .loop .marks → Passed c marks
+    used-other none proper = other c slot-is none (keeps-is ∙ rw (proper, none _))
+
+-- a live number is one of the numbers, and was live before exactly where it was seen
+module _
+    (c : tie.After-is-set Inv-loop μ-loop) (clear : c .is-set .result ≡ false)
+    (n : ℕ)
+    (kind : slotOf (from c .args .geo .logical) false (word-read c) ≡ Live n)
+  where
+    number-small : n < from c .args .geo .logical
+    number-small = live-parts _ _ _ n kind .2
+
+    live-keeps : kept c ≡ not (seen (turn c .loop .marks) n)
+    live-keeps = keeps-is c clear kind ∙ sym (ap not (turn c .loop .inv .1 .says n number-small))
 
 enum-told : tie.Need-enum-told Inv-loop μ-loop
 enum-told c = search needs
-
-contents-clean-requires : tie.Need-contents-clean-requires Inv-loop μ-loop
-contents-clean-requires c κs = search needs
-
-same-length-2 : tie.Need-same-length-2 Inv-loop μ-loop
-same-length-2 c = same-marks (turn (c .before .before .before .before))
-
-returns-3 : tie.Need-returns-3 Inv-loop μ-loop
-returns-3 c =
-    let found = c .before .before in
-    let here = found .before .before in
-    let dirty = sym (c .before .contents-clean .ensures) ∙ not-true _ (c .if3 .taken) in
-    (decides (turn here) (inside here) (keeps-is here (found .enum-told .given .1) ∙ rw dirty), λ r. absurd (false≢true r))
 
 enum-known-n : tie.Need-enum-known-n Inv-loop μ-loop
 enum-known-n c = search needs
@@ -221,22 +223,26 @@ enum-known-n c = search needs
 mark-requires : tie.Need-mark-requires Inv-loop μ-loop
 mark-requires c κs =
     let found = c .before .before in
-    let here = found .before .before in (
-      turn here .loop .inv .1 .long,
-      omega (arith, number-small here _ (found .n .given .1), logical-small (from here .args .geo) (from here .pre .0 .limits)),
-    )
+    let sorted = found .before .before in
+    let here = sorted .before .before in
+    let small = number-small here (sorted .before .if2 .left) _ (sym (sorted .slot-of .ensures) ∙ found .n .given .1) in
+    (turn here .loop .inv .1 .long, omega (arith, small, logical-small (from here .args .geo) (from here .pre .0 .limits)))
 
-same-length-3 : tie.Need-same-length-3 Inv-loop μ-loop
-same-length-3 c =
+same-length-2 : tie.Need-same-length-2 Inv-loop μ-loop
+same-length-2 c =
     let marked = c .before .before .before in
-    marked .mark .kept .0 ∙ same-marks (turn (marked .before .before .before .before .before))
+    marked .mark .kept .0 ∙ same-marks (turn (marked .before .before .before .before .before .before .before))
 
-returns-4 : tie.Need-returns-4 Inv-loop μ-loop
-returns-4 c =
+returns-3 : tie.Need-returns-3 Inv-loop μ-loop
+returns-3 c =
     let marked = c .before .before .before in
     let found = marked .before .before .before in
-    let here = found .before .before in
-    let again = live-keeps here _ (found .n .given .1) ∙ sym (marked .mark .ensures .0) ∙ not-true _ (c .if4 .taken) in
+    let sorted = found .before .before in
+    let here = sorted .before .before in
+    let again =
+    live-keeps here (sorted .before .if2 .left) _ (sym (sorted .slot-of .ensures) ∙ found .n .given .1)
+    ∙ sym (marked .mark .ensures .0)
+    ∙ not-true _ (c .if4 .taken) in
     (decides (turn here) (inside here) again, λ r. absurd (false≢true r))
 
 enum-told-2 : tie.Need-enum-told-2 Inv-loop μ-loop
@@ -245,13 +251,15 @@ enum-told-2 c = search needs
 enum-told-3 : tie.Need-enum-told-3 Inv-loop μ-loop
 enum-told-3 c = search needs
 
-same-length-4 : tie.Need-same-length-4 Inv-loop μ-loop
-same-length-4 c = same-marks (turn (c .before .before))
+same-length-3 : tie.Need-same-length-3 Inv-loop μ-loop
+same-length-3 c = same-marks (turn (c .before .before .before .before))
 
-returns-5 : tie.Need-returns-5 Inv-loop μ-loop
-returns-5 c =
-    let here = c .before .before in
-    (decides (turn here) (inside here) (keeps-is here (c .enum-told3 .given .1)), λ r. absurd (false≢true r))
+returns-4 : tie.Need-returns-4 Inv-loop μ-loop
+returns-4 c =
+    let sorted = c .before .before in
+    let here = sorted .before .before in
+    let faulty = keeps-is here (sorted .before .if2 .left) (sym (sorted .slot-of .ensures) ∙ c .enum-told3 .given .1) in
+    (decides (turn here) (inside here) faulty, λ r. absurd (false≢true r))
 
 enum-told-4 : tie.Need-enum-told-4 Inv-loop μ-loop
 enum-told-4 c = search needs
@@ -266,28 +274,31 @@ loop-again : tie.Need-loop-again Inv-loop μ-loop
 loop-again c =
     let here = c .before in
     let loop = turn here .loop in
-    let passed : Passed here (c .match .marks) =
+    let passed : Passed here (c .if2 .marks) =
     ⊎-elim
-    (λ w. (
-      other here (w .1 .given .1) (λ f. refl) _ (w .4),
-      keeps-is here (w .1 .given .1) ∙ rw (sym (w .2 .ensures) ∙ not-false _ (w .3 .left)),
+    (λ w.
+    let tests = not-false _ (w .2 .left) in
+    let free = ap isFreeEntry (entry-is here) ∙ both-pass _ _ (sym (w .1 .ensures) ∙ tests) .0 in
+    other here (own-free _ _ _ _ (bit-is here ∙ w .0 .taken) free) (λ f. refl) (set-is here (w .0 .taken) (w .1 .ensures) ∙ tests) _ (w .3))
+    (⊎-elim
+    (λ w. used-other here (w .0 .left) (sym (w .1 .ensures) ∙ w .3 .given .1) (λ f. refl) refl _ (w .4))
+    (⊎-elim
+    (λ w.
+    let kind = sym (w .1 .ensures) ∙ w .3 .given .1 in (
+      rw (w .10) (live-learnt _ _ (loop .inv .1) _ (slot-is here (w .0 .left) kind) _ (w .6 .kept .0) (w .6 .ensures .1)),
+      live-keeps here (w .0 .left) _ kind ∙ sym (w .6 .ensures .0) ∙ not-false _ (w .9 .left),
     ))
     (⊎-elim
-    (λ w. (
-      rw (w .8) (live-learnt _ _ (loop .inv .1) _ (slot-is here (w .1 .given .1)) _ (w .4 .kept .0) (w .4 .ensures .1)),
-      live-keeps here _ (w .1 .given .1) ∙ sym (w .4 .ensures .0) ∙ not-false _ (w .7 .left),
-    ))
-    (⊎-elim
-    (λ w. (other here (w .1 .given .1) (λ f. refl) _ (w .2), keeps-is here (w .1 .given .1)))
-    (λ w. (other here (w .1 .given .1) (λ f. refl) _ (w .2), keeps-is here (w .1 .given .1)))))
-    (c .match .came) in
+    (λ w. used-other here (w .0 .left) (sym (w .1 .ensures) ∙ w .3 .given .1) (λ f. refl) refl _ (w .4))
+    (λ w. used-other here (w .0 .left) (sym (w .1 .ensures) ∙ w .3 .given .1) (λ f. refl) refl _ (w .4)))))
+    (c .if2 .came) in
     (omega arith, passed .0, all-more (loop .i) _ (loop .inv .2) (passed .1))
 
-same-length-5 : tie.Need-same-length-5 Inv-loop μ-loop
-same-length-5 c = same-marks (c .before)
+same-length-4 : tie.Need-same-length-4 Inv-loop μ-loop
+same-length-4 c = same-marks (c .before)
 
-returns-6 : tie.Need-returns-6 Inv-loop μ-loop
-returns-6 c =
+returns-5 : tie.Need-returns-5 Inv-loop μ-loop
+returns-5 c =
     let turn = c .before in
     let end : turn .loop .i ≡ d (start turn .args .geo) = omega arith in
     (sym (rw end at (turn .loop .inv .2)) ∙ rules turn, λ r. marks-next _ _ (rw end at (turn .loop .inv .1)))
@@ -312,24 +323,22 @@ rules-2-to-5-spec =
     shared-slice-read-is-set
     cast-is-set
     is-set-requires
+    free-kept-requires
     same-length
     returns-2
     slot-of-requires
     enum-told
-    contents-clean-requires
-    same-length-2
-    returns-3
     enum-known-n
     mark-requires
-    same-length-3
-    returns-4
+    same-length-2
+    returns-3
     enum-told-2
     enum-told-3
-    same-length-4
-    returns-5
+    same-length-3
+    returns-4
     enum-told-4
     add-i
     loop-less
     loop-again
-    same-length-5
-    returns-6)
+    same-length-4
+    returns-5)
