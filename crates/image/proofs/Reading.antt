@@ -24,6 +24,10 @@ use Rattle.image.specs.WellFormed.{mapAgrees, restSet, R2, NoneSupersede
 use Rattle.image.proofs.Entries.{any-bit}
 use Rattle.image.proofs.Own.{free-read, each-own}
 
+-- slot j of a block by the entry that the code reads alone, where `base` is the place of the block's first entry
+abbrev pub slotFrom : Image → ℕ → ℕ → ℕ → Slot
+slotFrom image logical base j = slotOf logical false (word image (base + j))
+
 module _ (geo : Geometry) (image : Image) where
   -- block b ends within the image
   pub block-room : Shaped geo image → (b : ℕ) → b < geo .blocks → b * blockLength geo + blockLength geo ≤ length image

@@ -1,5 +1,4 @@
 -- `blocks::live_slots` meets its contract: the count is that of the live entries passed, and at the end of the live slots.
-use mathlib.Core.Bool.{false}
 use mathlib.Core.Path.{_≡_, refl, _∙_}
 use mathlib.Core.Logic.{⊎-elim}
 use Prim.Native.Nat.{ℕ, _+_, _-_, _<_, _≤_}
@@ -10,16 +9,10 @@ use borrow.Author.Needs.{needs}
 use Rattle.ranges.specs.Range.{one-if, sumBelow, countBelow}
 use Rattle.ranges.proofs.Sums.{one-if-le, count-ext}
 use Rattle.geometry.specs.Geometry.{d}
-use Rattle.image.specs.declared.Slot.{Slot}
-use Rattle.image.specs.Words.{Image, word}
-use Rattle.image.specs.Slots.{slotOf, isLive}
-use Rattle.image.proofs.Reading.{entry-inside, by-entry}
+use Rattle.image.specs.Slots.{isLive}
+use Rattle.image.proofs.Reading.{slotFrom, entry-inside, by-entry}
 use Rattle.blocks.proofs.live_slots.Statement.{statement}
 use Rattle.blocks.proofs.live_slots.Tie as tie
-
--- slot j of a block by the word that the code reads, where `base` is the place of the block's first entry
-abbrev slotFrom : Image → ℕ → ℕ → ℕ → Slot
-slotFrom image logical base j = slotOf logical false (word image (base + j))
 
 abbrev Inv-loop : tie.InvT-loop
 Inv-loop image b d logical base live₀ i₀ live i = (i < d) × (live ≤ i) × (live ≡ countBelow i (λ j. isLive (slotFrom image logical base j)))

@@ -15,18 +15,13 @@ use Rattle.ranges.proofs.Searches.{best-le, best-ext, best-none}
 use Rattle.geometry.specs.Geometry.{d}
 use Rattle.image.specs.declared.Slot.{Slot}
 use Rattle.image.specs.declared.Slot.the-variants.{Live}
-use Rattle.image.specs.Words.{Image, word}
-use Rattle.image.specs.Slots.{slotOf, slot, isLiveFor, liveIn}
+use Rattle.image.specs.Slots.{slot, isLiveFor, liveIn}
 use Rattle.image.proofs.Entries.{live-parts}
-use Rattle.image.proofs.Reading.{entry-inside, by-entry}
+use Rattle.image.proofs.Reading.{slotFrom, entry-inside, by-entry}
 use Rattle.flash.specs.Placing.{leastLive, greatestLive}
 use Rattle.placing.proofs.BoundLaws.{orAt, first-more, last-one, last-more}
 use Rattle.placing.proofs.live_bounds.Statement.{statement}
 use Rattle.placing.proofs.live_bounds.Tie as tie
-
--- slot j of a block by the word that the code reads, where `base` is the place of the block's first entry
-abbrev slotFrom : Image → ℕ → ℕ → ℕ → Slot
-slotFrom image logical base j = slotOf logical false (word image (base + j))
 
 -- n is live in one of the first i slots
 abbrev liveAmong : (ℕ → Slot) → ℕ → ℕ → Bool
