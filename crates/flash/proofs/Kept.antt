@@ -1,7 +1,7 @@
 -- What a placing keeps: the image stays sound, the map is the old one with n set, a right table stays right, one slot fewer is free.
 -- Assumes nothing.
 use mathlib.Core.Path.{_≡_, sym, ap, ap₂, _∙_}
-use mathlib.Core.Logic.{_≢_, _⊎_, inl, inr, ⊎-elim, dite}
+use mathlib.Core.Logic.{_≢_, _⊎_, ⊎-elim}
 use mathlib.Core.Bool.{true, false, not, true≢false}
 use mathlib.Core.List.{List}
 use mathlib.Core.Option.{some}
@@ -19,10 +19,9 @@ use Rattle.geometry.specs.Geometry.{d, k, sectorWords}
 use Rattle.geometry.proofs.Laws.{logical-small, map-covers}
 use Rattle.image.specs.declared.Slot.{Slot}
 use Rattle.image.specs.declared.Slot.the-variants.{Free, Live, Dead}
-use Rattle.image.specs.declared.Found.{Found}
-use Rattle.image.specs.declared.Found.the-variants.{At, Nothing}
+use Rattle.image.specs.declared.Found.the-variants.{At}
 use Rattle.image.specs.Words.{Image, leastMapped, greatestMapped, mapBit, contents}
-use Rattle.image.specs.Slots.{slot, isFree, isLive, isFaulty, isLiveFor, liveIn, find, mapOf}
+use Rattle.image.specs.Slots.{slot, isFree, isFaulty, isLiveFor, liveIn, find, mapOf}
 use Rattle.image.specs.Blocks.{full, freeSlots}
 use Rattle.image.proofs.Own.{live-number}
 use Rattle.image.specs.WellFormed.{R2}

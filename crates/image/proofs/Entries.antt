@@ -5,7 +5,7 @@ use mathlib.Core.Bool.{Bool, true, false, not, cond, Bool·beq, _&&_, _||_, true
 use Prim.Native.Nat.{ℕ, _+_, _/_, _%_, _^_, _<_, _≤_}
 use native.Mathlib.Omega.{arith}
 use lib.Dec.{eqb, ltb}
-use borrow.Author.Tests.{eq-eqb, ne-eqb, eqb-true, eqb-false, lt-ltb, le-ltb, ltb-true}
+use borrow.Author.Tests.{eq-eqb, ne-eqb, eqb-true, eqb-false, lt-ltb, ltb-true}
 use Rattle.ranges.specs.Range.{allBelow}
 use Rattle.ranges.proofs.Tests.{all-at}
 use Rattle.bits.specs.Word.{ones, bit, isSet, cleared}

@@ -15,8 +15,8 @@ use Rattle.geometry.specs.declared.Geometry.{Geometry}
 use Rattle.geometry.specs.Geometry.{d, k, sectorWords}
 use Rattle.image.specs.declared.Slot.{Slot}
 use Rattle.image.specs.declared.Slot.the-variants.{Free, Live, Dead, Faulty, Superseded}
-use Rattle.image.specs.Words.{Image, eraseCount, leastMapped, greatestMapped, mapBit, entry, contents}
-use Rattle.image.specs.Slots.{slot, superseded, isFreeEntry, isFree, isFaulty, isLiveWith, isLiveFor, liveIn}
+use Rattle.image.specs.Words.{Image, eraseCount, leastMapped, greatestMapped, mapBit, contents}
+use Rattle.image.specs.Slots.{slot, isFree, isFaulty, isLiveWith, isLiveFor}
 use Rattle.image.specs.Blocks.{full}
 use Rattle.image.specs.WellFormed.{ceiling, allOnes, mapAgrees, restSet, liveBefore, noneTwice, boundsSet, outOfBounds, R1, R2, R3, R4, R5, R6, R7, R8, soundBlock, sound, wellFormed, MapsAgree, NoneSuperseded}
 use Rattle.image.proofs.Own.{Once, free-read}

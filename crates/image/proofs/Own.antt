@@ -1,16 +1,16 @@
 -- A slot and its own entry and map bit: whether it is free or faulty they alone say; where it is not superseded they say all; and where no number
 -- is live twice by them, no slot is superseded. The laws of whole images and the code stand on these. Assumes nothing.
 use mathlib.Core.Path.{_≡_, refl, sym, ap, ap₂, _∙_}
-use mathlib.Core.Bool.{Bool, true, false, cond, _&&_, true≢false}
+use mathlib.Core.Bool.{Bool, true, false, _&&_, true≢false}
 use Prim.Native.Nat.{ℕ, _%_, _^_, _<_}
 use native.Mathlib.Omega.{arith}
 use lib.Dec.{ltb}
-use borrow.Author.Tests.{eqb-true, ltb-true}
+use borrow.Author.Tests.{eqb-true}
 use Rattle.ranges.proofs.Tests.{unless, both-pass, any-at}
 use Rattle.geometry.specs.declared.Geometry.{Geometry}
 use Rattle.geometry.specs.Geometry.{d}
 use Rattle.image.specs.declared.Slot.{Slot}
-use Rattle.image.specs.declared.Slot.the-variants.{Free, Live, Superseded}
+use Rattle.image.specs.declared.Slot.the-variants.{Live, Superseded}
 use Rattle.image.specs.Words.{Image, mapBit, entry}
 use Rattle.image.specs.Slots.{isFreeEntry, isComplete, isPassing, hasComplete, superseded, ownSlot, slot, isFree, isFaulty}
 use Rattle.image.specs.WellFormed.{NoneSuperseded}

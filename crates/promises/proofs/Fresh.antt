@@ -1,5 +1,5 @@
 -- What a format leaves: a well-formed image with an empty map, every slot free and no block erased. Assumes nothing.
-use mathlib.Core.Path.{_≡_, refl, sym, ap, _∙_}
+use mathlib.Core.Path.{_≡_, sym, ap, _∙_}
 use mathlib.Core.Logic.{_≢_}
 use mathlib.Core.Bool.{true, false, not, true≢false}
 use mathlib.Core.Option.{none}
