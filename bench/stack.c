@@ -1,8 +1,8 @@
-/* The stack that each call uses at the largest geometry, as a table. Fails where a call uses 4 KiB or more.
+/* The stack that each call uses at the largest geometry, accepted and refused with 4, as a table. Fails where a call uses 4 KiB or more.
  *
  * A call runs on a stack of its own that was painted before, and the deepest word that lost its paint tells. The image is one on which
  * a write has to reclaim and to copy. The lookup table misleads for every number, so that a call that takes it looks there and then has
- * to search as well. */
+ * to search as well. The damaged image has one superseded slot, in the last block that is in use: rule 8 is the last that a check asks. */
 #include <ucontext.h>
 
 #include "images.h"
@@ -46,7 +46,7 @@ static void call_write(void)
 {
     answer = shellwaltz_write(g.blocks, g.sectors, g.logical, image, words_of(g), NUMBER, buffer, SECTOR, count, count + 1,
                               bad, bad + 1);
-    if (count[1] != 1)
+    if (answer == 0 && count[1] != 1)
         fail("the write did not reclaim");
 }
 
@@ -70,7 +70,7 @@ static void call_write_with_table(void)
 {
     answer = shellwaltz_write_with_table(g.blocks, g.sectors, g.logical, image, words_of(g), NUMBER, buffer, SECTOR, table, g.logical,
                                          count, count + 1, bad, bad + 1);
-    if (count[1] != 1)
+    if (answer == 0 && count[1] != 1)
         fail("the write did not reclaim");
 }
 
@@ -89,7 +89,22 @@ static void make_table(void)
     table[g.logical - 1] = first;
 }
 
-static size_t stack_bytes(void (*call)(void))
+/* Gives the last live slot of another number an entry in passing for NUMBER, which is complete elsewhere. */
+static void damage(void)
+{
+    size_t entries = 3 + (g.sectors - 1 + 31) / 32;
+    for (uint32_t b = g.blocks; b-- > 0;)
+        for (uint32_t i = g.sectors - 1; i-- > 0;) {
+            uint32_t *entry = image + (size_t)b * g.sectors * SECTOR + entries + i;
+            if (*entry >> 29 == 6 && *entry != 0xC0000000u + NUMBER) {
+                *entry = 0x80000000u + NUMBER;
+                return;
+            }
+        }
+    fail("no live slot to damage");
+}
+
+static size_t stack_bytes(void (*call)(void), uint32_t wanted)
 {
     for (size_t i = 0; i < STACK_WORDS; i++)
         stack[i] = PAINT;
@@ -101,12 +116,21 @@ static size_t stack_bytes(void (*call)(void))
     makecontext(&there, call, 0);
     if (swapcontext(&here, &there) != 0)
         fail("no context");
-    if (answer != 0)
-        fail("a call whose stack was measured was refused");
+    if (answer != wanted || (wanted == 4 && bad[1] != 8))
+        fail("a call whose stack was measured had another answer");
     size_t untouched = 0;
     while (untouched < STACK_WORDS && stack[untouched] == PAINT)
         untouched++;
     return (STACK_WORDS - untouched) * sizeof *stack;
+}
+
+/* Less what the measuring itself takes. */
+static size_t within_limit(void (*call)(void), uint32_t wanted)
+{
+    size_t bytes = stack_bytes(call, wanted) - stack_bytes(call_nothing, 0);
+    if (bytes >= LIMIT)
+        fail("a call uses 4 KiB of stack or more");
+    return bytes;
 }
 
 int main(void)
@@ -124,15 +148,17 @@ int main(void)
         fail("no memory");
     fill_half(g, master);
     fill_to_reclaim(g, master);
-    size_t own = stack_bytes(call_nothing); /* what the measuring itself takes */
-    printf("| Call | Stack, bytes |\n|---|---|\n");
+    printf("| Call | Stack, bytes | Refused with 4 |\n|---|---|---|\n");
     for (size_t i = 0; i < sizeof calls / sizeof *calls; i++) {
         memcpy(image, master, words_of(g) * sizeof *image);
         make_table();
-        size_t bytes = stack_bytes(calls[i].call) - own;
-        printf("| %s | %zu |\n", calls[i].name, bytes);
-        if (bytes >= LIMIT)
-            fail("a call uses 4 KiB of stack or more");
+        printf("| %s | %zu |", calls[i].name, within_limit(calls[i].call, 0));
+        memcpy(image, master, words_of(g) * sizeof *image);
+        damage();
+        if (calls[i].call == call_format)
+            printf(" never |\n");
+        else
+            printf(" %zu |\n", within_limit(calls[i].call, 4));
     }
     free(image);
     free(master);

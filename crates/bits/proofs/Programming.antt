@@ -83,6 +83,15 @@ ones-leave w l =
     bits-same 32 (programmed ones w) w (programmed-lt ones w) l
     (λ j q. shared-bit 32 ones w j q ∙ omega (arith, ones-bit 32 j q, bit-at-most-one w j))
 
+-- programming goes by the 32 lowest bits of the asked word: by what it leaves over ones
+pub over-ones-first : (old asked : ℕ) → programmed old (programmed ones asked) ≡ programmed old asked
+over-ones-first old asked =
+    bits-same 32 (programmed old (programmed ones asked)) (programmed old asked) (programmed-lt old (programmed ones asked)) (programmed-lt old asked)
+    (λ j q.
+    shared-bit 32 old (programmed ones asked) j q
+    ∙ ap (min (bit old j)) (shared-bit 32 ones asked j q ∙ omega (arith, ones-bit 32 j q, bit-at-most-one asked j))
+    ∙ sym (shared-bit 32 old asked j q))
+
 -- the mask that the machine clears a bit by: ones, but for that bit
 pub mask-clears : (w j : ℕ) → w < 2 ^ 32 → j < 32 → bitAnd w (ones - 2 ^ j) ≡ cleared w j
 mask-clears w j l h =

@@ -2,7 +2,7 @@
 -- outcome, `_`, is read off the clauses, which are its equations by computation. Assumes nothing.
 use mathlib.Core.Path.{refl}
 use mathlib.Core.List.{[], _∷_}
-use Rattle.determined.specs.Contracts.{EveryContract, number, bad-block, bad-rule, format, check, report, read, write, release, build-table, read-with-table, write-with-table, release-with-table, c-format, c-check, c-report, c-read, c-write, c-release, c-build-table, c-read-with-table, c-write-with-table, c-release-with-table, start, record-of, short, carry-out, end, line-text, totals-text}
+use Rattle.determined.specs.Contracts.{EveryContract, number, bad-block, bad-rule, format, check, report, read, write, release, build-table, read-with-table, write-with-table, release-with-table, c-format, c-check, c-report, c-read, c-write, c-release, c-build-table, c-read-with-table, c-write-with-table, c-release-with-table, start, record-of, short, carry-out, end, reply, last}
 use Rattle.determined.proofs.Law.{kept, count, words, left, determined, nothing}
 use Rattle.answers.proofs as answers
 use Rattle.shellwaltz.proofs as calls
@@ -54,6 +54,6 @@ every-contract =
       of-short = determined short (left []) _ nothing (λ w c g o. refl) (λ M. records.short.Met.met);
       of-carry-out = determined carry-out (left (words ∷ count ∷ kept ∷ [])) _ nothing (λ w c g o. refl) (λ M. records.carry_out.Met.met);
       of-end = determined end (left (kept ∷ kept ∷ [])) _ nothing (λ w c g o. refl) (λ M. records.end.Met.met);
-      of-line-text = determined line-text (left (kept ∷ words ∷ [])) _ nothing (λ w c g o. refl) (λ M. text.line_text.Met.met);
-      of-totals-text = determined totals-text (left (kept ∷ words ∷ [])) _ nothing (λ w c g o. refl) (λ M. text.totals_text.Met.met);
+      of-reply = determined reply (left (words ∷ count ∷ kept ∷ kept ∷ words ∷ [])) _ nothing (λ w c g o. refl) (λ M. text.reply.Met.met);
+      of-last = determined last (left (kept ∷ kept ∷ words ∷ [])) _ nothing (λ w c g o. refl) (λ M. text.last.Met.met);
     }

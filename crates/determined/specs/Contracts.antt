@@ -107,11 +107,11 @@ abbrev pub end : Function
 end = record { ended = records.end.ended; clauses = λ M. records.end.clauses; routine = records.end.Symbol.routine }
 
 -- ---- what a script prints
-abbrev pub line-text : Function
-line-text = record { ended = text.line_text.ended; clauses = λ M. text.line_text.clauses; routine = text.line_text.Symbol.routine }
+abbrev pub reply : Function
+reply = record { ended = text.reply.ended; clauses = λ M. text.reply.clauses; routine = text.reply.Symbol.routine }
 
-abbrev pub totals-text : Function
-totals-text = record { ended = text.totals_text.ended; clauses = λ M. text.totals_text.clauses; routine = text.totals_text.Symbol.routine }
+abbrev pub last : Function
+last = record { ended = text.last.ended; clauses = λ M. text.last.clauses; routine = text.last.Symbol.routine }
 
 pub record EveryContract : Type 2 where
   pub of-number : Determined number
@@ -142,5 +142,5 @@ pub record EveryContract : Type 2 where
   pub of-short : Determined short
   pub of-carry-out : Determined carry-out
   pub of-end : Determined end
-  pub of-line-text : Determined line-text
-  pub of-totals-text : Determined totals-text
+  pub of-reply : Determined reply
+  pub of-last : Determined last

@@ -12,6 +12,7 @@ pub mod Moving
 pub mod Reclaimed
 pub mod Chosen
 pub mod Written
+pub mod Alike
 pub mod Tables
 pub mod Released
 pub mod Planned

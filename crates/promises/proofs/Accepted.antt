@@ -71,6 +71,11 @@ module _ (geo : Geometry) (image : Image) where
 
   -- ---- an accepted write
 
+  -- the answer looks at how many words the buffer has, and at none of them
+  pub write-by-length : (n : ℕ) (ws vs : List ℕ) → length ws ≡ length vs → writeAnswer geo image n ws ≡ writeAnswer geo image n vs
+  unfolding writeAnswer
+  write-by-length n ws vs e = rw e
+
   pub write-accepted : (n : ℕ) (buffer : List ℕ) → writeAnswer geo image n buffer ≡ Accepted → Shaped geo image × (wellFormed geo image ≡ true)
   unfolding writeAnswer
   write-accepted n buffer e =

@@ -182,18 +182,18 @@ write-bound geo image n buffer words handed accepted =
     (rw same (w .erases), rw same (omega (arith, w .words)), rw same (w .plain))
 
 pub run-bound-from-any : RunBoundFromAny
-run-bound-from-any geo image calls checked words handed =
+run-bound-from-any geo image calls checked words =
     let start = check-accepted geo image checked in
     let formed = formed-ready geo image (start .0) words (start .1) in
-    let r = runs geo calls (started image) (record { ready = formed .0; spare = formed .1 }) handed in
+    let r = runs geo calls (started image) (record { ready = formed .0; spare = formed .1 }) in
     (λ l. omega (arith, r .bound (ran geo (started image) calls .erasures - 1) (omega arith)), omega (arith, r .worn))
 
 pub run-bound : RunBound
 unfolding formatted
-run-bound geo before calls accepted handed =
+run-bound geo before calls accepted =
     let within = format-accepted geo before accepted .limits in
     let made : formatted geo before ≡ fresh geo = if-accepted (fresh geo) before accepted in
-    let r = runs geo calls (started (fresh geo)) (record { ready = fresh-ready geo within; spare = fresh-blank geo within }) handed in
+    let r = runs geo calls (started (fresh geo)) (record { ready = fresh-ready geo within; spare = fresh-blank geo within }) in
     let end = ran geo (started (fresh geo)) calls in
     let one-more : (geo .blocks - 1 + 1) * d geo ≡ geo .blocks * d geo = ap (_* d geo) (omega (arith, within .blocks-low)) in
     rw made

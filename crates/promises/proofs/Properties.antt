@@ -61,15 +61,15 @@ good-checked geo image good =
 
 pub runs-stay-well-formed : RunsStayWellFormed
 unfolding formatted
-runs-stay-well-formed geo image calls handed = (
+runs-stay-well-formed geo image calls = (
   λ accepted.
       let within = format-accepted geo image accepted .limits in
-      let good = runs geo calls (started (fresh geo)) (record { ready = fresh-ready geo within; spare = fresh-blank geo within }) handed .good in
+      let good = runs geo calls (started (fresh geo)) (record { ready = fresh-ready geo within; spare = fresh-blank geo within }) .good in
       rw (if-accepted (fresh geo) image accepted) (good-checked geo (ran geo (started (fresh geo)) calls .image) good),
   λ checked words.
       let start = check-accepted geo image checked in
       let formed = formed-ready geo image (start .0) words (start .1) in
-      let good = runs geo calls (started image) (record { ready = formed .0; spare = formed .1 }) handed .good in
+      let good = runs geo calls (started image) (record { ready = formed .0; spare = formed .1 }) .good in
       good-checked geo (ran geo (started image) calls .image) good,
 )
 

@@ -6,7 +6,7 @@ use Prim.Native.Nat.{ℕ, zero, suc, _+_, _-_, _*_, _≤_}
 use native.Mathlib.Omega.{arith}
 use Rattle.geometry.specs.declared.Geometry.{Geometry}
 use Rattle.geometry.specs.Geometry.{d, g}
-use Rattle.image.specs.Words.{Image, Words32}
+use Rattle.image.specs.Words.{Image}
 use Rattle.image.specs.WellFormed.{R6}
 use Rattle.flash.specs.Steps.{Step, run, erasuresIn}
 use Rattle.flash.specs.Placing.{releasing}
@@ -14,6 +14,7 @@ use Rattle.flash.specs.Writing.{writing}
 use Rattle.flash.proofs.Filling.{Ready}
 use Rattle.flash.proofs.Stores.{run-none}
 use Rattle.flash.proofs.Written.{freeIn, wornIn, Wrote}
+use Rattle.flash.proofs.Alike.{lowBits, low-bits-length, low-bits-words, writing-alike}
 use Rattle.answers.specs.declared.Answer.{Answer}
 use Rattle.answers.specs.declared.Answer.the-variants.{Accepted}
 use Rattle.answers.specs.Answers.{ifAccepted}
@@ -22,8 +23,8 @@ use Rattle.calls.specs.Refusals.{writeAnswer, releaseAnswer}
 use Rattle.calls.specs.Calls.{writeStepsAfter, writeSteps, releaseStepsAfter, releaseSteps}
 use Rattle.tabled.specs.Refusals.{writeAnswerWith, releaseAnswerWith}
 use Rattle.tabled.specs.Calls.{writeStepsWith, releaseStepsWith}
-use Rattle.promises.specs.Runs.{Call, Check, Report, Read, Write, Release, Build, ReadWith, WriteWith, ReleaseWith, State, called, ran, OfWords}
-use Rattle.promises.proofs.Accepted.{write-wrote, release-released, write-too, release-too}
+use Rattle.promises.specs.Runs.{Call, Check, Report, Read, Write, Release, Build, ReadWith, WriteWith, ReleaseWith, State, called, ran}
+use Rattle.promises.proofs.Accepted.{write-by-length, write-wrote, release-released, write-too, release-too}
 
 -- an image that is well formed, of the right shape and of 32-bit words
 pub record Good (geo : Geometry) (image : Image) : Type 0 where
@@ -101,22 +102,26 @@ module _ (geo : Geometry) where
           erasures = s .erasures + erasuresIn write-steps-of;
         }
 
-    write-step : Good geo (s .image) → Words32 buffer → Step-of s wrote
+    -- it goes by the 32 lowest bits of each word of the buffer
+    write-step : Good geo (s .image) → Step-of s wrote
     unfolding erasuresIn
-    write-step good handed = go (accepted? answer)
+    write-step good = go (accepted? answer)
       where
         go : Dec (answer ≡ Accepted) → Step-of s wrote
         go (yes a) =
             let same = if-accepted (writing geo (s .image) n buffer) [] a in
-            let r = write-wrote geo (s .image) n buffer (good .ready .words) handed (too a) in
+            let alike = writing-alike geo n buffer (s .image) in
+            let left = alike .same-run (s .image) in
+            let low-accepted = write-by-length geo (s .image) n (lowBits buffer) buffer (low-bits-length buffer) ∙ too a in
+            let r = write-wrote geo (s .image) n (lowBits buffer) (good .ready .words) (low-bits-words buffer) low-accepted in
             record {
-              good = rw same (record { ready = r .ready; spare = r .still-blank });
+              good = rw (same, left) (record { ready = r .ready; spare = r .still-blank });
               w = 1;
-              e = erasuresIn (writing geo (s .image) n buffer);
+              e = erasuresIn (writing geo (s .image) n (lowBits buffer));
               writes = ap (s .writes +_) (if-accepted 1 0 a);
-              erasures = ap (λ (ss : List Step). s .erasures + erasuresIn ss) same;
-              worn = rw same (r .worn);
-              paid = rw same (record { balance = write-balance r; one = omega arith; erases = r .erases; low = r .low });
+              erasures = ap (λ (ss : List Step). s .erasures + erasuresIn ss) same ∙ ap (s .erasures +_) (alike .same-erasures);
+              worn = rw (same, left) (r .worn);
+              paid = rw (same, left) (record { balance = write-balance r; one = omega arith; erases = r .erases; low = r .low });
             }
         go (no a) =
             let none = if-refused answer (writing geo (s .image) n buffer) [] a in
@@ -188,27 +193,26 @@ module _ (geo : Geometry) where
   pub runs :
       (calls : List Call) (s : State) →
       Good geo (s .image) →
-      OfWords calls →
       Ran s (ran geo s calls)
   unfolding ran called writeSteps releaseSteps writeStepsWith releaseStepsWith
-  runs [] s good handed =
+  runs [] s good =
       record { good = good; bound = λ k e. absurd (omega arith); worn = refl; more-erasures = omega arith; more-writes = omega arith }
-  runs (Check ∷ cs) s good handed = runs cs s good handed
-  runs (Report ∷ cs) s good handed = runs cs s good handed
-  runs (Read n buffer ∷ cs) s good handed = runs cs s good handed
-  runs (Write n buffer ∷ cs) s good handed =
-      let st = write-step s n buffer (writeAnswer geo (s .image) n buffer) (λ a. a) good (handed .0) in
-      joined s (called geo s (Write n buffer)) (ran geo (called geo s (Write n buffer)) cs) st (runs cs (called geo s (Write n buffer)) (st .good) (handed .1))
-  runs (Release n ∷ cs) s good handed =
+  runs (Check ∷ cs) s good = runs cs s good
+  runs (Report ∷ cs) s good = runs cs s good
+  runs (Read n buffer ∷ cs) s good = runs cs s good
+  runs (Write n buffer ∷ cs) s good =
+      let st = write-step s n buffer (writeAnswer geo (s .image) n buffer) (λ a. a) good in
+      joined s (called geo s (Write n buffer)) (ran geo (called geo s (Write n buffer)) cs) st (runs cs (called geo s (Write n buffer)) (st .good))
+  runs (Release n ∷ cs) s good =
       let st = release-step s n (releaseAnswer geo (s .image) n) (λ a. a) good in
-      joined s (called geo s (Release n)) (ran geo (called geo s (Release n)) cs) st (runs cs (called geo s (Release n)) (st .good) handed)
-  runs (Build table ∷ cs) s good handed = runs cs s good handed
-  runs (ReadWith n buffer table ∷ cs) s good handed = runs cs s good handed
-  runs (WriteWith n buffer table ∷ cs) s good handed =
+      joined s (called geo s (Release n)) (ran geo (called geo s (Release n)) cs) st (runs cs (called geo s (Release n)) (st .good))
+  runs (Build table ∷ cs) s good = runs cs s good
+  runs (ReadWith n buffer table ∷ cs) s good = runs cs s good
+  runs (WriteWith n buffer table ∷ cs) s good =
       let call : Call = WriteWith n buffer table in
-      let st = write-step s n buffer (writeAnswerWith geo (s .image) n buffer table) (write-too geo (s .image) n buffer table) good (handed .0) in
-      joined s (called geo s call) (ran geo (called geo s call) cs) st (runs cs (called geo s call) (st .good) (handed .1))
-  runs (ReleaseWith n table ∷ cs) s good handed =
+      let st = write-step s n buffer (writeAnswerWith geo (s .image) n buffer table) (write-too geo (s .image) n buffer table) good in
+      joined s (called geo s call) (ran geo (called geo s call) cs) st (runs cs (called geo s call) (st .good))
+  runs (ReleaseWith n table ∷ cs) s good =
       let call : Call = ReleaseWith n table in
       let st = release-step s n (releaseAnswerWith geo (s .image) n table) (release-too geo (s .image) n table) good in
-      joined s (called geo s call) (ran geo (called geo s call) cs) st (runs cs (called geo s call) (st .good) handed)
+      joined s (called geo s call) (ran geo (called geo s call) cs) st (runs cs (called geo s call) (st .good))

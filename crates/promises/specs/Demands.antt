@@ -25,7 +25,7 @@ use Rattle.answers.specs.declared.Answer.the-variants.{Accepted, Unmapped}
 use Rattle.answers.specs.Answers.{numberOf, blockOf, ruleOf}
 use Rattle.calls.specs.Refusals.{Row, formatRows, checkRows, readRows, writeRows, releaseRows, formatAnswer, checkAnswer, readAnswer, writeAnswer, releaseAnswer}
 use Rattle.calls.specs.Calls.{formatted, noTotals, reported, readBuffer, writeSteps, writeOutcome, written, releaseOutcome, released, outcome}
-use Rattle.promises.specs.Runs.{Call, OfWords, State, ran, started}
+use Rattle.promises.specs.Runs.{Call, State, ran, started}
 
 -- ---- Demand 1. Whatever is handed in, nothing traps: no public function of the crates `shellwaltz` and `tabled` has a `requires`, and a proved function does
 -- nothing undefined and returns.
@@ -172,7 +172,6 @@ abbrev pub RunBound : Type 0
 RunBound =
     (geo : Geometry) (before : Image) (calls : List Call) →
     formatAnswer geo before ≡ Accepted →
-    OfWords calls →
     let end : State = ran geo (started (formatted geo before)) calls in
     (1 ≤ end .erasures → (geo .blocks - 1) * d geo + g geo * (end .erasures - 1) + 1 ≤ end .writes)
     × (sumBelow (geo .blocks) (eraseCount geo (end .image)) ≡ end .erasures)
@@ -183,7 +182,6 @@ RunBoundFromAny =
     (geo : Geometry) (image : Image) (calls : List Call) →
     checkAnswer geo image ≡ Accepted →
     Words32 image →
-    OfWords calls →
     let end : State = ran geo (started image) calls in
     (1 ≤ end .erasures → sumBelow (geo .blocks) (freeSlots geo image) + g geo * (end .erasures - 1) + 1 ≤ end .writes + d geo)
     × (sumBelow (geo .blocks) (eraseCount geo (end .image)) ≡ sumBelow (geo .blocks) (eraseCount geo image) + end .erasures)

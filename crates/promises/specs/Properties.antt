@@ -21,7 +21,7 @@ use Rattle.flash.specs.Placing.{fillsSlot, placing}
 use Rattle.answers.specs.declared.Answer.the-variants.{Accepted}
 use Rattle.calls.specs.Refusals.{formatAnswer, checkAnswer, readAnswer, writeAnswer, releaseAnswer}
 use Rattle.calls.specs.Calls.{formatted, reported, readBuffer, writeSteps, releaseSteps, writeOutcome, written, releaseOutcome, released}
-use Rattle.promises.specs.Runs.{Call, OfWords, ran, started}
+use Rattle.promises.specs.Runs.{Call, ran, started}
 
 -- The map is well defined: on a well-formed image at most one slot is live for a number, and the map gives its contents.
 abbrev pub TheOneSlot : Type 0
@@ -58,7 +58,6 @@ FormatMakesAFreshImage =
 abbrev pub RunsStayWellFormed : Type 0
 RunsStayWellFormed =
     (geo : Geometry) (image : Image) (calls : List Call) →
-    OfWords calls →
     (formatAnswer geo image ≡ Accepted → checkAnswer geo (ran geo (started (formatted geo image)) calls .image) ≡ Accepted)
     × (checkAnswer geo image ≡ Accepted → Words32 image → checkAnswer geo (ran geo (started image) calls .image) ≡ Accepted)
 

@@ -2,7 +2,7 @@
 use mathlib.Core.List.{List, [], _∷_}
 use Prim.Native.Nat.{ℕ, _+_}
 use Rattle.geometry.specs.declared.Geometry.{Geometry}
-use Rattle.image.specs.Words.{Image, Words32}
+use Rattle.image.specs.Words.{Image}
 use Rattle.tables.specs.Tables.{Table}
 use Rattle.calls.specs.Refusals.{writeAnswer}
 use Rattle.answers.specs.Answers.{ifAccepted}
@@ -69,16 +69,3 @@ module _ (geo : Geometry) where
 -- where a run starts
 abbrev pub started : Image → State
 started image = record { image = image; writes = 0; erasures = 0 }
-
--- every buffer to write is of 32-bit words, as a slice of them is
-abbrev pub OfWords : List Call → Type 0
-OfWords [] = Unit {0}
-OfWords (Check ∷ cs) = OfWords cs
-OfWords (Report ∷ cs) = OfWords cs
-OfWords (Read n buffer ∷ cs) = OfWords cs
-OfWords (Write n buffer ∷ cs) = Words32 buffer × OfWords cs
-OfWords (Release n ∷ cs) = OfWords cs
-OfWords (Build table ∷ cs) = OfWords cs
-OfWords (ReadWith n buffer table ∷ cs) = OfWords cs
-OfWords (WriteWith n buffer table ∷ cs) = Words32 buffer × OfWords cs
-OfWords (ReleaseWith n table ∷ cs) = OfWords cs

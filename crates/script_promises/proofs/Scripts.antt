@@ -1,52 +1,40 @@
 -- The statements of specs/Scripts.antt: the records since the last accepted operation 4 are a run of calls after a format, of which demand 3 holds.
 -- Assumes nothing.
 use mathlib.Core.Path.{_≡_, refl, sym, ap, _∙_}
-use mathlib.Core.Bool.{Bool, true, false, cond, _&&_}
+use mathlib.Core.Bool.{Bool, true, false, cond}
 use mathlib.Core.Logic.{_≢_, _↔_}
 use mathlib.Core.List.{List, [], _∷_, _++_}
-use Prim.Native.Nat.{ℕ, zero, suc, _+_, _^_, _≤_, _<_}
+use Prim.Native.Nat.{ℕ, _+_, _≤_}
 use native.Mathlib.Omega.{arith}
 use borrow.Author.Tests.{eq-eqb, ne-eqb}
 use lib.Dec.{eqb}
-use lib.ListN.{length, getD, replicate}
+use lib.ListN.{length}
 use Rattle.ranges.specs.Range.{one-if}
 use Rattle.geometry.specs.declared.Geometry.{Geometry}
-use Rattle.geometry.specs.Geometry.{sectorWords, filled, imageLength, Limits}
+use Rattle.geometry.specs.Geometry.{filled, imageLength, Limits}
 use Rattle.geometry.proofs.Laws.{limits-pass}
-use Rattle.image.specs.Words.{Image, Words32}
+use Rattle.image.specs.Words.{Image}
 use Rattle.answers.specs.declared.Answer.{Answer}
 use Rattle.answers.specs.declared.Answer.the-variants.{Accepted, BadGeometry}
 use Rattle.answers.specs.Answers.{numberOf, ifAccepted}
 use Rattle.answers.proofs.Acceptance.{accepted-number, if-accepted, if-refused, accepted?}
 use Rattle.calls.specs.Refusals.{row1, formatAnswer, checkAnswer, writeAnswer}
 use Rattle.calls.specs.Calls.{fresh, formatted, written, released, totalsOf, noTotals, reported}
-use Rattle.promises.specs.Runs.{Call, Check, Report, Read, Write, Release, Build, ReadWith, WriteWith, ReleaseWith, State, called, ran, started, OfWords}
+use Rattle.promises.specs.Runs.{Call, Check, Write, Release, State, called, ran, started}
 use Rattle.promises.proofs.Accepted.{format-accepted}
 use Rattle.promises.proofs.Demands.{refused-changes-nothing, run-bound}
 use Rattle.promises.proofs.Properties.{runs-stay-well-formed}
 use Rattle.records.specs.declared.Line.{Line}
 use Rattle.records.specs.declared.Record.{Record}
 use Rattle.records.specs.Records.{scriptGeometry, defaultLogical, writeLine, readLine, releaseLine, formatLine, otherLine, lineOf, imageAfter, logicalFormatted, logicalAfter}
-use Rattle.script_promises.specs.Scripts.{Script, startOf, after, afterAll, linesOf, startsAnew, sinceLastFormat, acceptedWrite, writesTold, erasuresTold, FillsAreWords, ScriptRunBound, OperationFour}
+use Rattle.script_promises.specs.Scripts.{Script, startOf, after, afterAll, linesOf, startsAnew, sinceLastFormat, acceptedWrite, writesTold, erasuresTold, ScriptRunBound, OperationFour}
 
--- ---- one more at the end: of a run, of its buffers, and of what lines count
+-- ---- one more at the end: of a run, and of what lines count
 
 ran-on : (geo : Geometry) (s : State) (cs : List Call) (c : Call) → ran geo s (cs ++ (c ∷ [])) ≡ called geo (ran geo s cs) c
 unfolding ran
 ran-on geo s [] c = refl
 ran-on geo s (x ∷ cs) c = ran-on geo (called geo s x) cs c
-
-words-on : (cs ds : List Call) → OfWords cs → OfWords ds → OfWords (cs ++ ds)
-words-on [] ds w v = v
-words-on (Check ∷ cs) ds w v = words-on cs ds w v
-words-on (Report ∷ cs) ds w v = words-on cs ds w v
-words-on (Read n buffer ∷ cs) ds w v = words-on cs ds w v
-words-on (Write n buffer ∷ cs) ds w v = (w .0, words-on cs ds (w .1) v)
-words-on (Release n ∷ cs) ds w v = words-on cs ds w v
-words-on (Build table ∷ cs) ds w v = words-on cs ds w v
-words-on (ReadWith n buffer table ∷ cs) ds w v = words-on cs ds w v
-words-on (WriteWith n buffer table ∷ cs) ds w v = (w .0, words-on cs ds (w .1) v)
-words-on (ReleaseWith n table ∷ cs) ds w v = words-on cs ds w v
 
 writes-on : (ls : List Line) (l : Line) → writesTold (ls ++ (l ∷ [])) ≡ writesTold ls + one-if (acceptedWrite l)
 unfolding writesTold
@@ -72,15 +60,6 @@ state image w e = record { image = image; writes = w; erasures = e }
 
 same-counts : {image : Image} {w w' e e' : ℕ} → w ≡ w' → e ≡ e' → state image w e ≡ state image w' e'
 same-counts p q = rw (p, q)
-
--- a buffer of fill words is of 32-bit words
-filled-words : (k fill : ℕ) → fill < 2 ^ 32 → Words32 (replicate k fill)
-filled-words k fill small = record { small = go k }
-  where
-    go : (m p : ℕ) → getD (replicate m fill) p 0 < 2 ^ 32
-    go zero p = omega arith
-    go (suc m) zero = small
-    go (suc m) (suc p) = go m p
 
 -- of an image of a script's length, a format is accepted exactly for an L from 1 to 104
 accepted-from-1-to-104 :
@@ -110,7 +89,6 @@ record Standing (s : Script) (kept : List Line) : Type 0 where
   before : Image
   accepted : formatAnswer (scriptGeometry (s .logical)) before ≡ Accepted
   calls : List Call
-  words : OfWords calls
   stands :
       ran (scriptGeometry (s .logical)) (started (formatted (scriptGeometry (s .logical)) before)) calls
       ≡ state (s .image) (writesTold kept) (erasuresTold kept)
@@ -121,7 +99,7 @@ just-formatted :
     formatAnswer (scriptGeometry n) before ≡ Accepted →
     Standing (record { image = formatted (scriptGeometry n) before; logical = n }) []
 unfolding ran writesTold erasuresTold
-just-formatted before n accepted = record { before = before; accepted = accepted; calls = []; words = tt; stands = refl }
+just-formatted before n accepted = record { before = before; accepted = accepted; calls = []; stands = refl }
 
 -- a line, and the image and the L after it: which lines count from there on
 abbrev Next : List Line → Line → Image → ℕ → Type 0
@@ -138,19 +116,17 @@ module _ (s : Script) (kept : List Line) (st : Standing s kept) where
   call-more :
       (l : Line) (c : Call) (image : Image) →
       startsAnew l ≡ false →
-      OfWords (c ∷ []) →
       called geo (state (s .image) (writesTold kept) (erasuresTold kept)) c
       ≡ state image (writesTold kept + one-if (acceptedWrite l)) (erasuresTold kept + l .erasures) →
       Next kept l image (s .logical)
   unfolding sinceLastFormat
-  call-more l c image goes-on handed does = (
+  call-more l c image goes-on does = (
     kept ++ (l ∷ []),
     λ ls. rw goes-on,
     record {
       before = st .before;
       accepted = st .accepted;
       calls = st .calls ++ (c ∷ []);
-      words = words-on (st .calls) (c ∷ []) (st .words) handed;
       stands =
           rw (writes-on kept l, erasures-on kept l)
           (ran-on geo _ (st .calls) c ∙ ap (λ (t : State). called geo t c) (st .stands) ∙ does);
@@ -161,20 +137,19 @@ module _ (s : Script) (kept : List Line) (st : Standing s kept) where
   idle : (l : Line) → startsAnew l ≡ false → acceptedWrite l ≡ false → l .erasures ≡ 0 → Next kept l (s .image) (s .logical)
   unfolding called
   idle l goes-on no-write none =
-      call-more l Check (s .image) goes-on tt (rw (no-write, none) (same-counts (omega arith) (omega arith)))
+      call-more l Check (s .image) goes-on (rw (no-write, none) (same-counts (omega arith) (omega arith)))
 
   writes :
       (n fill : ℕ) →
-      fill < 2 ^ 32 →
       Next kept (writeLine (s .image) (s .logical) n fill) (written geo (s .image) n (filled fill)) (s .logical)
   unfolding called
-  writes n fill small =
-      call-more (writeLine (s .image) (s .logical) n fill) (Write n (filled fill)) _ refl (filled-words sectorWords fill small, tt)
+  writes n fill =
+      call-more (writeLine (s .image) (s .logical) n fill) (Write n (filled fill)) _ refl
       (same-counts (ap (writesTold kept +_) (sym (counted (writeAnswer geo (s .image) n (filled fill))))) refl)
 
   releases : (n : ℕ) → Next kept (releaseLine (s .image) (s .logical) n) (released geo (s .image) n) (s .logical)
   unfolding called
-  releases n = call-more (releaseLine (s .image) (s .logical) n) (Release n) _ refl tt (same-counts (omega arith) refl)
+  releases n = call-more (releaseLine (s .image) (s .logical) n) (Release n) _ refl (same-counts (omega arith) refl)
 
   formats : (n : ℕ) → Next kept (formatLine (s .image) n) (formatted (scriptGeometry n) (s .image)) (logicalFormatted (s .image) (s .logical) n)
   unfolding sinceLastFormat
@@ -193,9 +168,9 @@ module _ (s : Script) (kept : List Line) (st : Standing s kept) where
   abbrev After : Record → Type 0
   After r = Next kept (lineOf (s .image) (s .logical) r) (imageAfter (s .image) (s .logical) r) (logicalAfter (s .image) (s .logical) r)
 
-  next : (r : Record) → r .fill < 2 ^ 32 → After r
+  next : (r : Record) → After r
   unfolding lineOf imageAfter logicalAfter
-  next r small = go (eqb (r .operation) 1) refl (eqb (r .operation) 2) refl (eqb (r .operation) 3) refl (eqb (r .operation) 4) refl
+  next r = go (eqb (r .operation) 1) refl (eqb (r .operation) 2) refl (eqb (r .operation) 3) refl (eqb (r .operation) 4) refl
     where
       go :
           (a : Bool) →
@@ -207,7 +182,7 @@ module _ (s : Script) (kept : List Line) (st : Standing s kept) where
           (e : Bool) →
           eqb (r .operation) 4 ≡ e →
           After r
-      go true p b q c u e v = rw p (writes (r .number) (r .fill) small)
+      go true p b q c u e v = rw p (writes (r .number) (r .fill))
       go false p true q c u e v = rw (p, q) (idle (readLine (s .image) (s .logical) (r .number)) refl refl refl)
       go false p false q true u e v = rw (p, q, u) (releases (r .number))
       go false p false q false u true v = rw (p, q, u, v) (formats (r .number))
@@ -217,24 +192,23 @@ module _ (s : Script) (kept : List Line) (st : Standing s kept) where
 
 all-next :
     (rs : List Record) (s : Script) (kept : List Line) →
-    FillsAreWords rs →
     Standing s kept →
     Standing (afterAll s rs) (sinceLastFormat kept (linesOf s rs))
 unfolding afterAll linesOf sinceLastFormat
-all-next [] s kept small st = st
-all-next (r ∷ rs) s kept small st =
-    let n = next s kept st r (small .0) in
-    rw (n .1 (linesOf (after s r) rs)) (all-next rs (after s r) (n .0) (small .1) (n .2))
+all-next [] s kept st = st
+all-next (r ∷ rs) s kept st =
+    let n = next s kept st r in
+    rw (n .1 (linesOf (after s r) rs)) (all-next rs (after s r) (n .0) (n .2))
 
 pub script-run-bound : ScriptRunBound
 unfolding reported
-script-run-bound before records long small =
+script-run-bound before records long =
     let end = afterAll (startOf before) records in
     let accepted = accepted-from-1-to-104 before defaultLogical long .1 (omega arith, omega arith) in
-    let st = all-next records (startOf before) [] small (just-formatted before defaultLogical accepted) in
+    let st = all-next records (startOf before) [] (just-formatted before defaultLogical accepted) in
     let geo = scriptGeometry (end .logical) in
-    let checked = rw (st .stands) at (runs-stay-well-formed geo (st .before) (st .calls) (st .words) .0 (st .accepted)) in
-    let bound = rw (st .stands) at (run-bound geo (st .before) (st .calls) (st .accepted) (st .words)) in
+    let checked = rw (st .stands) at (runs-stay-well-formed geo (st .before) (st .calls) .0 (st .accepted)) in
+    let bound = rw (st .stands) at (run-bound geo (st .before) (st .calls) (st .accepted)) in
     let totals = if-accepted (totalsOf geo (end .image)) (noTotals (checkAnswer geo (end .image))) checked in
     (checked, bound .0, ap (λ t. t .«erase_sum») totals ∙ bound .1)
 

@@ -1,10 +1,11 @@
--- A script from its start on: how it stands after any records, their lines, and demand 3 of the lines since the last accepted operation 4 (K3).
+-- A script from its start on (FORMAT.md, The script program): how it stands after any records, their lines, and demand 3 of the lines since the last
+-- accepted operation 4 (K3).
 -- proofs/Scripts.antt proves each statement under the name in small letters.
 use mathlib.Core.Path.{_≡_}
 use mathlib.Core.Logic.{_≢_, _↔_}
 use mathlib.Core.Bool.{Bool, cond, _&&_}
 use mathlib.Core.List.{List, [], _∷_, _++_}
-use Prim.Native.Nat.{ℕ, _+_, _-_, _*_, _^_, _≤_, _<_}
+use Prim.Native.Nat.{ℕ, _+_, _-_, _*_, _≤_}
 use lib.Dec.{eqb}
 use lib.ListN.{length}
 use Rattle.ranges.specs.Range.{one-if}
@@ -53,7 +54,7 @@ sinceLastFormat kept (l ∷ ls) = cond (startsAnew l) (sinceLastFormat [] ls) (s
 abbrev pub acceptedWrite : Line → Bool
 acceptedWrite line = eqb (line .letter) 87 && eqb (line .answer) 0
 
--- w and E as lines tell them: how many are of accepted writes, and the sum of their erasures
+-- w and E as lines tell them: how many are of accepted writes, and the erasures of them all
 unfoldable pub writesTold : List Line → ℕ
 writesTold [] = 0
 writesTold (l ∷ ls) = one-if (acceptedWrite l) + writesTold ls
@@ -62,11 +63,6 @@ unfoldable pub erasuresTold : List Line → ℕ
 erasuresTold [] = 0
 erasuresTold (l ∷ ls) = l .erasures + erasuresTold ls
 
--- every fill is a word of 32 bits, as it is in a record of 12 bytes
-abbrev pub FillsAreWords : List Record → Type 0
-FillsAreWords [] = Unit {0}
-FillsAreWords (r ∷ rs) = (r .fill < 2 ^ 32) × FillsAreWords rs
-
 -- Demand 3 of a script. After any records, with w accepted writes and E erasures in the lines since the last accepted operation 4, or since the
 -- start: E erasures, if there is one, need (B − 1)·d + g·(E − 1) + 1 writes or more, with the g of the present L; and the sum of the erase counts,
 -- as the last line shows it, is E. The image is one that a check accepts, so that the last line is that of an accepted report.
@@ -74,7 +70,6 @@ abbrev pub ScriptRunBound : Type 0
 ScriptRunBound =
     (before : Image) (records : List Record) →
     length before ≡ imageLength (scriptGeometry defaultLogical) →
-    FillsAreWords records →
     let end : Script = afterAll (startOf before) records in
     let lines : List Line = sinceLastFormat [] (linesOf (startOf before) records) in
     let geo : Geometry = scriptGeometry (end .logical) in

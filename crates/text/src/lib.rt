@@ -1,11 +1,12 @@
-// The bytes that the script program prints (docs/FORMAT.md, The script program): a record's line, and the line of the totals. Each goes to the start
-// of a buffer that the caller lends.
+// What the script program prints (docs/FORMAT.md, The script program), from the bytes of a record to those of its line, and the line of the totals.
+// Each line goes to the start of a buffer that the caller lends.
 ghost use mathlib.Core.Path.{_≡_};
 ghost use Prim.Native.Nat.{_+_, _*_, _≤_, _<_};
 ghost use lib.ListN.{length, set};
 ghost use lib.Seq.{sets};
 ghost use Rattle.text.specs.Decimal.{digit, decimal};
 ghost use Rattle.text.specs.Lines.{row, lineText, totalsText, putFirst};
+ghost use Rattle.text.specs.Replies.{replyText, imageReplied, logicalReplied, lastText};
 use calls::Totals;
 use records::Line;
 
@@ -55,7 +56,7 @@ fn put_row(letter: u8, numbers: &[u32], out: &mut [u8]) -> usize
 }
 
 // The line of a record, at the start of a buffer. Answers how many bytes it has.
-pub fn line_text(line: Line, out: &mut [u8; LONGEST_LINE]) -> usize
+fn line_text(line: Line, out: &mut [u8; LONGEST_LINE]) -> usize
     ensures { λ r. ⌜ r ≡ length (lineText line) ⌝ }
     ensures { λ _. ⌜ now (out .exit) ≡ putFirst (lineText line) (now (out .entry)) ⌝ }
 {
@@ -70,10 +71,45 @@ pub fn line_text(line: Line, out: &mut [u8; LONGEST_LINE]) -> usize
 }
 
 // The line of the totals likewise.
-pub fn totals_text(totals: Totals, out: &mut [u8; LONGEST_LINE]) -> usize
+fn totals_text(totals: Totals, out: &mut [u8; LONGEST_LINE]) -> usize
     ensures { λ r. ⌜ r ≡ length (totalsText totals) ⌝ }
     ensures { λ _. ⌜ now (out .exit) ≡ putFirst (totalsText totals) (now (out .entry)) ⌝ }
 {
     let numbers = [totals.mapped, totals.free, totals.dead, totals.erase_sum];
     put_row(b'T', &numbers, out)
+}
+
+// Replies to what was read for the next record, of whose 12 bytes `came` came: carries the record out on the image with the script's L, and puts its
+// line at the start of a buffer. Fewer bytes than 12 are a record that is cut short, and none are the input's end, which has no line. Answers how many
+// bytes the line has.
+pub fn reply(
+    image: &mut [u32],
+    logical: &mut u32,
+    bytes: &[u8; 12],
+    came: usize,
+    out: &mut [u8; LONGEST_LINE],
+) -> usize
+    ensures { λ r. ⌜ r ≡ length (replyText (now (image .entry)) (now (logical .entry)) (now (bytes .entry)) came) ⌝ }
+    ensures { λ _. ⌜ now (image .exit) ≡ imageReplied (now (image .entry)) (now (logical .entry)) (now (bytes .entry)) came ⌝ }
+    ensures { λ _. ⌜ now (logical .exit) ≡ logicalReplied (now (image .entry)) (now (logical .entry)) (now (bytes .entry)) came ⌝ }
+    ensures { λ _. ⌜ now (out .exit) ≡ putFirst (replyText (now (image .entry)) (now (logical .entry)) (now (bytes .entry)) came) (now (out .entry)) ⌝ }
+{
+    if came == 0 {
+        return 0;
+    }
+    if came < 12 {
+        return line_text(records::short(), out);
+    }
+    line_text(
+        records::carry_out(image, logical, records::record_of(bytes)),
+        out,
+    )
+}
+
+// The last line, of the image and the L that the script ends with, likewise.
+pub fn last(image: &[u32], logical: u32, out: &mut [u8; LONGEST_LINE]) -> usize
+    ensures { λ r. ⌜ r ≡ length (lastText (now (image .entry)) logical) ⌝ }
+    ensures { λ _. ⌜ now (out .exit) ≡ putFirst (lastText (now (image .entry)) logical) (now (out .entry)) ⌝ }
+{
+    totals_text(records::end(image, logical), out)
 }
