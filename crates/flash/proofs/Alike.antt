@@ -1,5 +1,5 @@
--- A write goes by the 32 lowest bits of each word that it is handed: its steps leave the same image, and erase as often, with any words in their place of
--- which programming leaves the same. So what is shown of a write of 32-bit words tells of any other. Assumes nothing.
+-- A write goes by the 32 lowest bits of each word that it is handed: its steps leave the same image, and erase as often, as with these bits alone. So what
+-- is shown of a write of 32-bit words tells of any other. Assumes nothing.
 use mathlib.Core.Path.{_≡_, refl, sym, ap, ap₂, _∙_}
 use mathlib.Core.Bool.{Bool, true, false, cond}
 use mathlib.Core.List.{List, [], _∷_, _++_, map}
@@ -41,7 +41,7 @@ module _ (geo : Geometry) where
     pub same-run : (image : Image) → run geo image xs ≡ run geo image ys
     pub same-erasures : erasuresIn xs ≡ erasuresIn ys
 
-  pub alike-same : {xs ys : List Step} → xs ≡ ys → Alike xs ys
+  alike-same : {xs ys : List Step} → xs ≡ ys → Alike xs ys
   alike-same e = record { same-run = λ image. ap (run geo image) e; same-erasures = ap erasuresIn e }
 
   alike-append : {xs ys us vs : List Step} → Alike xs ys → Alike us vs → Alike (xs ++ us) (ys ++ vs)

@@ -1,5 +1,5 @@
 -- The three demands as statements, in the order of README.md's promises. proofs/Demands.antt proves each under the name in small letters.
--- Where a statement speaks of an image or a buffer to write, it is one of 32-bit words (Words32): every slice is (image::slots::words_in).
+-- Some statements ask that an image, or a buffer to write, is of 32-bit words (Words32): every slice is (image::slots::words_in).
 use mathlib.Core.Path.{_≡_}
 use mathlib.Core.Logic.{_≢_, _↔_}
 use mathlib.Core.Bool.{Bool, true, false, not, cond, _&&_}

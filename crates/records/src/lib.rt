@@ -1,5 +1,5 @@
 // A script's records (docs/FORMAT.md, The script program): what the bytes of one say, and what it does to the script's image and to its L, the number
-// of logical sectors. The program `script` reads records and prints their lines.
+// of logical sectors. The crate `text` goes from the bytes that are read to those that are printed.
 ghost use mathlib.Core.Path.{_≡_};
 ghost use Prim.Native.Nat.{_+_, _≤_};
 ghost use Rattle.geometry.specs.Geometry.{filled};

@@ -50,9 +50,9 @@ module _ (input : List ℕ) where
   record-taken : recordOf (take 12 input) ≡ recordOf input
   record-taken = rw (number-taken 0 (omega arith), number-taken 4 (omega arith), number-taken 8 (omega arith))
 
-prints : (turns : ℕ) (s : Script) (input : List ℕ) → length input < 12 * turns → handedOn turns s input ≡ printedFrom s input
+prints : (turns : ℕ) (s : Script) (input : List ℕ) → length input ≤ 12 * turns → handedOn turns s input ≡ printedFrom s input
 unfolding handedOn printedFrom replyText imageReplied logicalReplied linesOf afterAll texts
-prints zero s input l = absurd (omega arith)
+prints zero s input l = rw (no-record input (omega arith), eq-eqb (length input % 12) 0 (omega arith))
 prints (suc turns) s input l =
     go (decLt (length input) 12) (ℕ-discrete (length input) 0)
     (λ next enough. prints turns next (drop 12 input) (omega (arith, length-drop 12 input)))

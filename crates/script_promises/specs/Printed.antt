@@ -3,7 +3,7 @@
 use mathlib.Core.Path.{_≡_}
 use mathlib.Core.Bool.{cond}
 use mathlib.Core.List.{List, [], _∷_, _++_}
-use Prim.Native.Nat.{ℕ, zero, suc, _*_, _/_, _%_, _<_}
+use Prim.Native.Nat.{ℕ, zero, suc, _*_, _/_, _%_, _≤_}
 use lib.Dec.{eqb}
 use lib.ListN.{length, take, drop}
 use Rattle.ranges.specs.Range.{listBelow}
@@ -33,7 +33,7 @@ printedFrom s input =
     texts (linesOf s records) ++ (cut ++ lastText (end .image) (end .logical))
 
 -- What comes out where the input is handed on as in script/src/main.rt, in so many turns at most: 12 bytes at a time go to `text::reply`, until fewer
--- came; then `text::last` is asked.
+-- came; then `text::last` is asked. (The program lends 12 bytes each time; where fewer came, `reply` looks at none of them.)
 unfoldable pub handedOn : ℕ → Script → List ℕ → List ℕ
 handedOn zero s input = lastText (s .image) (s .logical)
 handedOn (suc turns) s input =
@@ -50,5 +50,5 @@ handedOn (suc turns) s input =
 abbrev pub ScriptPrints : Type 0
 ScriptPrints =
     (before : Image) (input : List ℕ) (turns : ℕ) →
-    length input < 12 * turns →
+    length input ≤ 12 * turns →
     handedOn turns (startOf before) input ≡ printedFrom (startOf before) input

@@ -1,1 +1,1 @@
-// Nothing runs here. The crate says what a script promises of its records and lines (specs/), and proves it of their definitions (proofs/).
+// Nothing runs here. The crate says what a script promises of its input, records and lines (specs/), and proves it of their definitions (proofs/).

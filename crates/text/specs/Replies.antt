@@ -7,8 +7,8 @@ use Rattle.image.specs.Words.{Image}
 use Rattle.records.specs.Records.{recordOf, shortLine, lineOf, imageAfter, logicalAfter, endTotals}
 use Rattle.text.specs.Lines.{lineText, totalsText}
 
--- Of the 12 bytes of the next record `came` are there: none at the input's end, all of them, or fewer where the record is cut short.
-abbrev pub byCame {ℓ} : {A : Type ℓ} → ℕ → A → A → A → A
+-- Of the 12 bytes of the next record `came` are there: none at the input's end, fewer than 12 where the record is cut short, or all (12 or more).
+abbrev byCame {ℓ} : {A : Type ℓ} → ℕ → A → A → A → A
 byCame came at-end cut-short whole = cond (eqb came 0) at-end (cond (ltb came 12) cut-short whole)
 
 module _ (image : Image) (logical : ℕ) (bytes : List ℕ) (came : ℕ) where
