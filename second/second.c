@@ -37,14 +37,6 @@ struct spot {
     uint32_t slot;
 };
 
-/* Steps done by a call.  64 bits wide not for the range but because a word of
- * the image cannot then be one of the two counts, so the compiler may keep
- * them in registers while it stores into the image. */
-struct tally {
-    uint64_t words;
-    uint64_t erasures;
-};
-
 /* ---- Geometry ---------------------------------------------------------- */
 
 uint32_t second_slots(struct second_geometry g)
@@ -418,6 +410,30 @@ static bool table_holds(struct second_geometry g, const uint32_t *image,
     return is_live_for(image[entry_place(g, told)], number);
 }
 
+/* ---- Refusals ---------------------------------------------------------- */
+
+/* As with the table: the length that is asked, for a call that takes none. */
+#define NO_BUFFER_WORDS SECOND_SECTOR_WORDS
+
+/* 1 to 4 of read, write and release, with the first fault beside a 4. */
+static uint32_t refusal(struct second_geometry g, const uint32_t *image,
+                        size_t image_words, uint32_t number,
+                        size_t buffer_words, size_t table_words,
+                        uint32_t *bad_block, uint32_t *bad_rule)
+{
+    *bad_block = 0;
+    *bad_rule = 0;
+    if (!image_fits(g, image_words))
+        return SECOND_BAD_GEOMETRY;
+    if (buffer_words != SECOND_SECTOR_WORDS || !table_fits(g, table_words))
+        return SECOND_BAD_BUFFER;
+    if (number >= g.logical)
+        return SECOND_BAD_NUMBER;
+    if (!well_formed(g, image, bad_block, bad_rule))
+        return SECOND_BAD_IMAGE;
+    return SECOND_OK;
+}
+
 /* ---- Looking into a well-formed image ---------------------------------- */
 
 /* Where the number is live; R5 lets that be one slot at most.  So a slot that
@@ -488,29 +504,117 @@ static uint32_t live_slots_of(struct second_geometry g, const uint32_t *image,
 
 /* ---- Steps ------------------------------------------------------------- */
 
-/* The one way a word is programmed: bits can only be cleared. */
-static void program(struct tally *done, uint32_t *word, uint32_t asked)
+struct step {
+    uint32_t kind;
+    uint32_t place;
+    uint32_t word;
+};
+
+/* A call on its way through its steps.  Most steps hang on those before them,
+ * so all of them are taken in one image, even where few are asked for; if the
+ * lent one is not to go as far as that, it is a copy.  The counts are 64 bits
+ * wide not for the range but because a word of the image cannot then be one of
+ * them, so the compiler may keep them in registers while it stores into the
+ * image. */
+struct run {
+    struct second_geometry g;
+    uint32_t *image;   /* takes every step */
+    uint32_t *lent;    /* takes the first `most`; image itself, or another */
+    uint64_t most;
+    uint64_t sought;   /* the step to be told, by its number */
+    struct step found; /* what it is; SECOND_DONE as long as it did not come */
+    uint64_t taken;
+    uint64_t words;    /* of the first `most`, like the erasures */
+    uint64_t erasures;
+};
+
+/* More than any call takes, and more than a caller can ask for. */
+#define NO_END UINT64_MAX
+
+/* In static storage for its size.  What it holds is of no use after a call. */
+static uint32_t scratch[SECOND_MOST_BLOCKS * SECOND_MOST_SECTORS *
+                        SECOND_SECTOR_WORDS];
+
+/* In the lent image, all of it. */
+static struct run whole_run(struct second_geometry g, uint32_t *image)
 {
-    *word &= asked;
-    done->words++;
+    return (struct run){.g = g, .image = image, .lent = image,
+                        .most = NO_END, .sought = NO_END};
 }
 
-/* The one way a block is erased. */
-static void erase(struct tally *done, uint32_t *block, size_t length)
+/* In a copy, with not one step in the image itself. */
+static struct run run_aside(struct second_geometry g, const uint32_t *image)
 {
-    for (size_t i = 0; i < length; i++)
-        block[i] = ONES;
-    done->erasures++;
+    memcpy(scratch, image, second_image_words(g) * sizeof *image);
+    return (struct run){.g = g, .image = scratch, .lent = NULL,
+                        .most = 0, .sought = NO_END};
+}
+
+/* What a step does to an image: programming can only clear bits, an erase sets
+ * those of a whole block. */
+static void carry_out(struct second_geometry g, uint32_t *image,
+                      struct step step)
+{
+    if (step.kind == SECOND_PROGRAM) {
+        image[step.place] &= step.word;
+    } else {
+        uint32_t *block = image + block_place(g, step.place);
+
+        for (size_t i = 0; i < block_words(g); i++)
+            block[i] = ONES;
+    }
+}
+
+/* The one way any step is taken. */
+static void take(struct run *run, struct step step)
+{
+    carry_out(run->g, run->image, step);
+    if (run->taken < run->most) {
+        if (run->lent != run->image)
+            carry_out(run->g, run->lent, step);
+        if (step.kind == SECOND_PROGRAM)
+            run->words++;
+        else
+            run->erasures++;
+    }
+    if (run->taken == run->sought)
+        run->found = step;
+    run->taken++;
+}
+
+static void program(struct run *run, size_t place, uint32_t word)
+{
+    take(run, (struct step){SECOND_PROGRAM, (uint32_t)place, word});
+}
+
+static void erase(struct run *run, uint32_t block)
+{
+    take(run, (struct step){SECOND_ERASE, block, 0});
+}
+
+static void tell_counts(const struct run *run, uint32_t *words,
+                        uint32_t *erasures)
+{
+    *words = (uint32_t)run->words;
+    *erasures = (uint32_t)run->erasures;
+}
+
+static void tell_step(const struct run *run, uint32_t *kind, uint32_t *place,
+                      uint32_t *word)
+{
+    *kind = run->found.kind;
+    *place = run->found.place;
+    *word = run->found.word;
 }
 
 /* ---- Write ------------------------------------------------------------- */
 
 /* Step (g): to be done when the new entry is live and the old one is not. */
-static void program_range(struct second_geometry g, uint32_t *image,
-                          uint32_t block, struct tally *done)
+static void program_range(struct run *run, uint32_t block)
 {
-    const uint32_t *entries = image + entry_place(g, (struct spot){block, 0});
-    uint32_t *head = image + block_place(g, block);
+    struct second_geometry g = run->g;
+    const uint32_t *entries =
+        run->image + entry_place(g, (struct spot){block, 0});
     uint32_t slots = second_slots(g);
     uint32_t least = ONES;
     uint32_t greatest = 0;
@@ -525,32 +629,36 @@ static void program_range(struct second_geometry g, uint32_t *image,
                 greatest = number;
         }
     }
-    program(done, head + LEAST_MAPPED, least);
-    program(done, head + GREATEST_MAPPED, greatest);
+    program(run, block_place(g, block) + LEAST_MAPPED, least);
+    program(run, block_place(g, block) + GREATEST_MAPPED, greatest);
 }
 
-/* Places the number in a free slot.  Old is its live entry, NULL for none.  In
- * an entry in passing (b) finds nothing to clear, but it is a step and counts
- * as one all the same. */
-static void place(struct second_geometry g, uint32_t *image, struct spot to,
-                  uint32_t number, const uint32_t *data, uint32_t *old,
-                  struct tally *done)
-{
-    uint32_t *map = image + map_place(g, to);
-    uint32_t *entry = image + entry_place(g, to);
-    uint32_t *content = image + content_place(g, to);
+/* No entry has its place here: word 0 of an image is an erase count. */
+#define NOWHERE ((size_t)0)
 
-    program(done, map, *map & ~map_bit(to.slot)); /* (a) */
-    if (old != NULL)
-        program(done, old, *old & ~CURRENT_BIT); /* (b) */
+/* Places the number in a free slot.  Old is the place of its live entry,
+ * NOWHERE if it has none.  In an entry in passing (b) finds nothing to clear,
+ * but it is a step and counts as one all the same. */
+static void place_number(struct run *run, struct spot to, uint32_t number,
+                         const uint32_t *data, size_t old)
+{
+    struct second_geometry g = run->g;
+    const uint32_t *image = run->image;
+    size_t map = map_place(g, to);
+    size_t entry = entry_place(g, to);
+    size_t content = content_place(g, to);
+
+    program(run, map, image[map] & ~map_bit(to.slot)); /* (a) */
+    if (old != NOWHERE)
+        program(run, old, image[old] & ~CURRENT_BIT); /* (b) */
     for (uint32_t i = 0; i < SECOND_SECTOR_WORDS; i++)
-        program(done, content + i, data[i]); /* (c) */
-    program(done, entry, STATE_WRITING + number); /* (d) */
-    program(done, entry, STATE_COMPLETE + number); /* (e) */
-    if (old != NULL)
-        program(done, old, *old & ~(CURRENT_BIT | VALID_BIT)); /* (f) */
+        program(run, content + i, data[i]); /* (c) */
+    program(run, entry, STATE_WRITING + number); /* (d) */
+    program(run, entry, STATE_COMPLETE + number); /* (e) */
+    if (old != NOWHERE)
+        program(run, old, image[old] & ~(CURRENT_BIT | VALID_BIT)); /* (f) */
     if (free_slots_of(g, image, to.block) == 0u)
-        program_range(g, image, to.block, done); /* (g) */
+        program_range(run, to.block); /* (g) */
 }
 
 /* What the choice of a slot hangs on. */
@@ -616,47 +724,49 @@ static uint32_t choose_victim(struct second_geometry g, const uint32_t *image)
 /* Moves the victim's live slots to the blank block, then erases the victim.
  * The blank block keeps a free slot: L is below the slots of the full blocks,
  * so the victim has a dead one. */
-static void reclaim(struct second_geometry g, uint32_t *image, uint32_t victim,
-                    uint32_t blank, uint16_t *table, struct tally *done)
+static void reclaim(struct run *run, uint32_t victim, uint32_t blank,
+                    uint16_t *table)
 {
-    uint32_t *head = image + block_place(g, victim);
-    uint32_t count = head[ERASE_COUNT];
+    struct second_geometry g = run->g;
+    const uint32_t *image = run->image;
+    size_t count_place = block_place(g, victim) + ERASE_COUNT;
+    uint32_t count = image[count_place];
     uint32_t slots = second_slots(g);
     struct spot to = {blank, 0};
 
     for (uint32_t slot = 0; slot < slots; slot++) {
         struct spot from = {victim, slot};
-        uint32_t *old = image + entry_place(g, from);
+        size_t old = entry_place(g, from);
 
-        if (is_live(g, *old)) {
-            uint32_t number = number_of(*old);
+        if (is_live(g, image[old])) {
+            uint32_t number = number_of(image[old]);
 
-            place(g, image, to, number, image + content_place(g, from), old,
-                  done);
+            place_number(run, to, number, image + content_place(g, from), old);
             note(table, number, table_word(g, to));
             to.slot++;
         }
     }
-    erase(done, head, block_words(g));
-    program(done, head + ERASE_COUNT, count + 1u);
+    erase(run, victim);
+    program(run, count_place, count + 1u);
 }
 
 /* The write in a well-formed image: done, or refused before its first step. */
-static uint32_t write_number(struct second_geometry g, uint32_t *image,
-                             uint32_t number, const uint32_t *data,
-                             uint16_t *table, struct tally *done)
+static uint32_t write_number(struct run *run, uint32_t number,
+                             const uint32_t *data, uint16_t *table)
 {
+    struct second_geometry g = run->g;
+    const uint32_t *image = run->image;
     struct survey seen = survey_blocks(g, image);
     struct spot to;
     struct spot at;
-    uint32_t *old;
+    size_t old;
 
     if (seen.open_blocks == 0u && seen.blank_blocks == 1u) {
         uint32_t victim = choose_victim(g, image);
 
         if (image[block_place(g, victim) + ERASE_COUNT] == SECOND_CEILING)
             return SECOND_WORN_OUT;
-        reclaim(g, image, victim, seen.best_blank, table, done);
+        reclaim(run, victim, seen.best_blank, table);
         seen = survey_blocks(g, image);
     }
     if (seen.open_blocks > 0u)
@@ -666,9 +776,9 @@ static uint32_t write_number(struct second_geometry g, uint32_t *image,
         to = (struct spot){seen.best_blank, 0};
 
     /* Only now: the reclaim may have moved the old slot. */
-    old = find_live(g, image, number, table, &at) ? image + entry_place(g, at)
-                                                  : NULL;
-    place(g, image, to, number, data, old, done);
+    old = find_live(g, image, number, table, &at) ? entry_place(g, at)
+                                                  : NOWHERE;
+    place_number(run, to, number, data, old);
     note(table, number, table_word(g, to));
     return SECOND_OK;
 }
@@ -683,25 +793,13 @@ uint32_t second_write_with_table(uint32_t blocks, uint32_t sectors,
                                  uint32_t *bad_block, uint32_t *bad_rule)
 {
     struct second_geometry g = {blocks, sectors, logical};
-    struct tally done = {0, 0};
-    uint32_t answer;
+    struct run run = whole_run(g, image);
+    uint32_t answer = refusal(g, image, image_words, number, buffer_words,
+                              table_words, bad_block, bad_rule);
 
-    *words = 0;
-    *erasures = 0;
-    *bad_block = 0;
-    *bad_rule = 0;
-    if (!image_fits(g, image_words))
-        return SECOND_BAD_GEOMETRY;
-    if (buffer_words != SECOND_SECTOR_WORDS || !table_fits(g, table_words))
-        return SECOND_BAD_BUFFER;
-    if (number >= logical)
-        return SECOND_BAD_NUMBER;
-    if (!well_formed(g, image, bad_block, bad_rule))
-        return SECOND_BAD_IMAGE;
-
-    answer = write_number(g, image, number, buffer, table, &done);
-    *words = (uint32_t)done.words;
-    *erasures = (uint32_t)done.erasures;
+    if (answer == SECOND_OK)
+        answer = write_number(&run, number, buffer, table);
+    tell_counts(&run, words, erasures);
     return answer;
 }
 
@@ -716,6 +814,142 @@ uint32_t second_write(uint32_t blocks, uint32_t sectors, uint32_t logical,
                                    image_words, number, buffer, buffer_words,
                                    NO_TABLE, logical, words, erasures,
                                    bad_block, bad_rule);
+}
+
+uint32_t second_write_step(uint32_t blocks, uint32_t sectors, uint32_t logical,
+                           const uint32_t *image, size_t image_words,
+                           uint32_t number, const uint32_t *buffer,
+                           size_t buffer_words,
+                           uint32_t step,
+                           uint32_t *kind, uint32_t *place, uint32_t *word,
+                           uint32_t *bad_block, uint32_t *bad_rule)
+{
+    struct second_geometry g = {blocks, sectors, logical};
+    struct run run = {.found = {SECOND_DONE, 0, 0}};
+    uint32_t answer = refusal(g, image, image_words, number, buffer_words,
+                              logical, bad_block, bad_rule);
+
+    if (answer == SECOND_OK) {
+        run = run_aside(g, image);
+        run.sought = step;
+        answer = write_number(&run, number, buffer, NO_TABLE);
+    }
+    tell_step(&run, kind, place, word);
+    return answer;
+}
+
+uint32_t second_write_first(uint32_t blocks, uint32_t sectors,
+                            uint32_t logical,
+                            uint32_t *image, size_t image_words,
+                            uint32_t number, const uint32_t *buffer,
+                            size_t buffer_words,
+                            uint32_t most,
+                            uint32_t *words, uint32_t *erasures,
+                            uint32_t *bad_block, uint32_t *bad_rule)
+{
+    struct second_geometry g = {blocks, sectors, logical};
+    struct run run = {.words = 0, .erasures = 0};
+    uint32_t answer = refusal(g, image, image_words, number, buffer_words,
+                              logical, bad_block, bad_rule);
+
+    if (answer == SECOND_OK) {
+        run = run_aside(g, image);
+        run.lent = image;
+        run.most = most;
+        answer = write_number(&run, number, buffer, NO_TABLE);
+    }
+    tell_counts(&run, words, erasures);
+    return answer;
+}
+
+/* ---- Release ----------------------------------------------------------- */
+
+/* The release in a well-formed image: done, or refused before its step. */
+static uint32_t release_number(struct run *run, uint32_t number,
+                               uint16_t *table)
+{
+    struct spot at;
+    size_t entry;
+
+    if (!find_live(run->g, run->image, number, table, &at))
+        return SECOND_NOT_MAPPED;
+    entry = entry_place(run->g, at);
+    program(run, entry, run->image[entry] & ~VALID_BIT);
+    note(table, number, SECOND_NO_SLOT);
+    return SECOND_OK;
+}
+
+uint32_t second_release_with_table(uint32_t blocks, uint32_t sectors,
+                                   uint32_t logical,
+                                   uint32_t *image, size_t image_words,
+                                   uint32_t number,
+                                   uint16_t *table, size_t table_words,
+                                   uint32_t *words, uint32_t *erasures,
+                                   uint32_t *bad_block, uint32_t *bad_rule)
+{
+    struct second_geometry g = {blocks, sectors, logical};
+    struct run run = whole_run(g, image);
+    uint32_t answer = refusal(g, image, image_words, number, NO_BUFFER_WORDS,
+                              table_words, bad_block, bad_rule);
+
+    if (answer == SECOND_OK)
+        answer = release_number(&run, number, table);
+    tell_counts(&run, words, erasures);
+    return answer;
+}
+
+uint32_t second_release(uint32_t blocks, uint32_t sectors, uint32_t logical,
+                        uint32_t *image, size_t image_words,
+                        uint32_t number,
+                        uint32_t *words, uint32_t *erasures,
+                        uint32_t *bad_block, uint32_t *bad_rule)
+{
+    return second_release_with_table(blocks, sectors, logical, image,
+                                     image_words, number, NO_TABLE, logical,
+                                     words, erasures, bad_block, bad_rule);
+}
+
+uint32_t second_release_step(uint32_t blocks, uint32_t sectors,
+                             uint32_t logical,
+                             const uint32_t *image, size_t image_words,
+                             uint32_t number, uint32_t step,
+                             uint32_t *kind, uint32_t *place, uint32_t *word,
+                             uint32_t *bad_block, uint32_t *bad_rule)
+{
+    struct second_geometry g = {blocks, sectors, logical};
+    struct run run = {.found = {SECOND_DONE, 0, 0}};
+    uint32_t answer = refusal(g, image, image_words, number, NO_BUFFER_WORDS,
+                              logical, bad_block, bad_rule);
+
+    if (answer == SECOND_OK) {
+        run = run_aside(g, image);
+        run.sought = step;
+        answer = release_number(&run, number, NO_TABLE);
+    }
+    tell_step(&run, kind, place, word);
+    return answer;
+}
+
+uint32_t second_release_first(uint32_t blocks, uint32_t sectors,
+                              uint32_t logical,
+                              uint32_t *image, size_t image_words,
+                              uint32_t number, uint32_t most,
+                              uint32_t *words, uint32_t *erasures,
+                              uint32_t *bad_block, uint32_t *bad_rule)
+{
+    struct second_geometry g = {blocks, sectors, logical};
+    struct run run = {.words = 0, .erasures = 0};
+    uint32_t answer = refusal(g, image, image_words, number, NO_BUFFER_WORDS,
+                              logical, bad_block, bad_rule);
+
+    if (answer == SECOND_OK) {
+        run = run_aside(g, image);
+        run.lent = image;
+        run.most = most;
+        answer = release_number(&run, number, NO_TABLE);
+    }
+    tell_counts(&run, words, erasures);
+    return answer;
 }
 
 /* ---- The other calls --------------------------------------------------- */
@@ -825,18 +1059,12 @@ uint32_t second_read_with_table(uint32_t blocks, uint32_t sectors,
                                 uint32_t *bad_block, uint32_t *bad_rule)
 {
     struct second_geometry g = {blocks, sectors, logical};
+    uint32_t answer = refusal(g, image, image_words, number, buffer_words,
+                              table_words, bad_block, bad_rule);
     struct spot at;
 
-    *bad_block = 0;
-    *bad_rule = 0;
-    if (!image_fits(g, image_words))
-        return SECOND_BAD_GEOMETRY;
-    if (buffer_words != SECOND_SECTOR_WORDS || !table_fits(g, table_words))
-        return SECOND_BAD_BUFFER;
-    if (number >= logical)
-        return SECOND_BAD_NUMBER;
-    if (!well_formed(g, image, bad_block, bad_rule))
-        return SECOND_BAD_IMAGE;
+    if (answer != SECOND_OK)
+        return answer;
     if (!find_live(g, image, number, table, &at))
         return SECOND_NOT_MAPPED;
 
@@ -853,52 +1081,4 @@ uint32_t second_read(uint32_t blocks, uint32_t sectors, uint32_t logical,
     return second_read_with_table(blocks, sectors, logical, image,
                                   image_words, number, buffer, buffer_words,
                                   NO_TABLE, logical, bad_block, bad_rule);
-}
-
-uint32_t second_release_with_table(uint32_t blocks, uint32_t sectors,
-                                   uint32_t logical,
-                                   uint32_t *image, size_t image_words,
-                                   uint32_t number,
-                                   uint16_t *table, size_t table_words,
-                                   uint32_t *words, uint32_t *erasures,
-                                   uint32_t *bad_block, uint32_t *bad_rule)
-{
-    struct second_geometry g = {blocks, sectors, logical};
-    struct tally done = {0, 0};
-    struct spot at;
-    uint32_t *entry;
-
-    *words = 0;
-    *erasures = 0;
-    *bad_block = 0;
-    *bad_rule = 0;
-    if (!image_fits(g, image_words))
-        return SECOND_BAD_GEOMETRY;
-    if (!table_fits(g, table_words))
-        return SECOND_BAD_BUFFER;
-    if (number >= logical)
-        return SECOND_BAD_NUMBER;
-    if (!well_formed(g, image, bad_block, bad_rule))
-        return SECOND_BAD_IMAGE;
-    if (!find_live(g, image, number, table, &at))
-        return SECOND_NOT_MAPPED;
-
-    entry = image + entry_place(g, at);
-    program(&done, entry, *entry & ~VALID_BIT);
-    note(table, number, SECOND_NO_SLOT);
-
-    *words = (uint32_t)done.words;
-    *erasures = (uint32_t)done.erasures;
-    return SECOND_OK;
-}
-
-uint32_t second_release(uint32_t blocks, uint32_t sectors, uint32_t logical,
-                        uint32_t *image, size_t image_words,
-                        uint32_t number,
-                        uint32_t *words, uint32_t *erasures,
-                        uint32_t *bad_block, uint32_t *bad_rule)
-{
-    return second_release_with_table(blocks, sectors, logical, image,
-                                     image_words, number, NO_TABLE, logical,
-                                     words, erasures, bad_block, bad_rule);
 }

@@ -41,7 +41,19 @@
  * move, a release that of the number released, a read none; whatever the other
  * words hold is kept.  So a right table stays right as long as every write and
  * release is given it; after one that was not, and after a format, it wants
- * building again. */
+ * building again.
+ *
+ * A write or a release is a row of steps, counted from 0, each of which
+ * programs a word or erases a block.  From an image as it stands before the
+ * call, second_write_step and second_release_step tell one step of that row
+ * and change nothing: its kind, its place and, for a word, what is asked of
+ * it; bits that are 0 already stay 0 whatever is asked.  Behind the last step,
+ * and beside a refusal, the kind is SECOND_DONE, and place and word are 0.
+ * second_write_first and second_release_first take the steps in their order
+ * but no more than `most` of them, count those, and leave the image as it is
+ * then, which need not be a sound one.  All four refuse what the whole call
+ * refuses, however few steps are asked for.  They share a scratch image, so no
+ * two of them may run at the same time. */
 #ifndef SECOND_H
 #define SECOND_H
 
@@ -67,6 +79,11 @@
 #define SECOND_BAD_IMAGE 4u
 #define SECOND_NOT_MAPPED 5u
 #define SECOND_WORN_OUT 6u
+
+/* The kinds of a step. */
+#define SECOND_DONE 0u    /* there is no step i */
+#define SECOND_PROGRAM 1u /* program `word` at place `place` of the image */
+#define SECOND_ERASE 2u   /* erase block `place`; `word` is 0 */
 
 struct second_geometry {
     uint32_t blocks;
@@ -114,6 +131,37 @@ uint32_t second_release(uint32_t blocks, uint32_t sectors, uint32_t logical,
                         uint32_t number,
                         uint32_t *words, uint32_t *erasures,
                         uint32_t *bad_block, uint32_t *bad_rule);
+
+uint32_t second_write_step(uint32_t blocks, uint32_t sectors, uint32_t logical,
+                           const uint32_t *image, size_t image_words,
+                           uint32_t number, const uint32_t *buffer,
+                           size_t buffer_words,
+                           uint32_t step,
+                           uint32_t *kind, uint32_t *place, uint32_t *word,
+                           uint32_t *bad_block, uint32_t *bad_rule);
+
+uint32_t second_release_step(uint32_t blocks, uint32_t sectors,
+                             uint32_t logical,
+                             const uint32_t *image, size_t image_words,
+                             uint32_t number, uint32_t step,
+                             uint32_t *kind, uint32_t *place, uint32_t *word,
+                             uint32_t *bad_block, uint32_t *bad_rule);
+
+uint32_t second_write_first(uint32_t blocks, uint32_t sectors,
+                            uint32_t logical,
+                            uint32_t *image, size_t image_words,
+                            uint32_t number, const uint32_t *buffer,
+                            size_t buffer_words,
+                            uint32_t most,
+                            uint32_t *words, uint32_t *erasures,
+                            uint32_t *bad_block, uint32_t *bad_rule);
+
+uint32_t second_release_first(uint32_t blocks, uint32_t sectors,
+                              uint32_t logical,
+                              uint32_t *image, size_t image_words,
+                              uint32_t number, uint32_t most,
+                              uint32_t *words, uint32_t *erasures,
+                              uint32_t *bad_block, uint32_t *bad_rule);
 
 uint32_t second_build_table(uint32_t blocks, uint32_t sectors,
                             uint32_t logical,

@@ -1,7 +1,8 @@
 /* Tests.  Beside the library stand a slow check that asks each rule of each
  * block by itself, a second account of write and release that stores results
- * instead of taking steps, a plain array of what every sector ought to hold,
- * and a walk over all slots that tells what a table ought to say. */
+ * instead of taking steps and writes the steps down, a plain array of what
+ * every sector ought to hold, and a walk over all slots that tells what a
+ * table ought to say. */
 #include "second.h"
 
 #include <stdio.h>
@@ -264,6 +265,64 @@ static struct pair first_fault(struct shape g, uint32_t *im)
     return no_fault;
 }
 
+/* ---- The row of steps that a call ought to take ------------------------- */
+
+enum { DONE, PROGRAM, ERASE };
+
+struct step {
+    uint32_t kind, place, word;
+};
+
+static const struct step no_step = {DONE, 0, 0};
+
+/* 62 copies out of a block with one dead slot, the erase and the count, then a
+ * replacement that fills the block: no row is longer. */
+#define LONGEST_ROW (62 * 133 + 2 + 135)
+
+static struct step row[LONGEST_ROW];
+static uint32_t row_length;
+
+static void then(struct step next)
+{
+    if (row_length == LONGEST_ROW)
+        abort();
+    row[row_length++] = next;
+}
+
+static void then_program(size_t place, uint32_t word)
+{
+    then((struct step){PROGRAM, (uint32_t)place, word});
+}
+
+static void then_erase(uint32_t block)
+{
+    then((struct step){ERASE, block, 0});
+}
+
+static void then_sector(size_t place, const uint32_t *data)
+{
+    for (uint32_t i = 0; i < 128; i++)
+        then_program(place + i, data[i]);
+}
+
+/* Placing n, up to (f), in an image where that is still to come.  What is live
+ * for n in it is either complete or in passing, so (b) and (f) are known. */
+static void then_put(struct shape g, uint32_t *im, uint32_t b, uint32_t s,
+                     uint32_t n, const uint32_t *data, const uint32_t *old)
+{
+    uint32_t *map = map_of(g, im, b, s);
+    size_t entry = (size_t)(entry_of(g, im, b, s) - im);
+
+    then_program((size_t)(map - im), *map - (UINT32_C(1) << s % 32));
+    if (old)
+        then_program((size_t)(old - im), PASSING + n);
+    then_sector((size_t)(data_of(g, im, b, s) - im), data);
+    then_program(entry, 0xE0000000 + n);
+    then_program(entry, LIVE + n);
+    if (old)
+        then_program((size_t)(old - im), n);
+}
+
 /* ---- Second account of write and release -------------------------------- */
 
 static uint32_t *model_find(struct shape g, uint32_t *im, uint32_t n)
@@ -278,7 +337,8 @@ static uint32_t *model_find(struct shape g, uint32_t *im, uint32_t n)
     return NULL;
 }
 
-/* Leaves what placing leaves and gives what it costs. */
+/* Leaves what placing leaves, adds its steps to the row and gives their
+ * number. */
 static uint32_t model_put(struct shape g, uint32_t *im, uint32_t b, uint32_t s,
                           uint32_t n, const uint32_t *data)
 {
@@ -286,6 +346,7 @@ static uint32_t model_put(struct shape g, uint32_t *im, uint32_t b, uint32_t s,
     uint32_t *h = head_of(g, im, b);
     uint32_t cost = 131;
 
+    then_put(g, im, b, s, n, data, old);
     if (old) {
         *old = n;
         cost += 2;
@@ -303,6 +364,8 @@ static uint32_t model_put(struct shape g, uint32_t *im, uint32_t b, uint32_t s,
             if (lives(g, im, b, i) && m > h[2])
                 h[2] = m;
         }
+        then_program((size_t)(h + 1 - im), h[1]);
+        then_program((size_t)(h + 2 - im), h[2]);
         cost += 2;
     }
     return cost;
@@ -353,6 +416,7 @@ static uint32_t model_write(struct shape g, uint32_t *im, uint32_t n,
 {
     uint32_t tb = 0, ts = 0, to = 0;
 
+    row_length = 0;
     *words = *erasures = 0;
     if (!model_target(g, im, &tb, &ts)) {
         uint32_t blank = tb, v = blank == 0 ? 1 : 0;
@@ -373,6 +437,8 @@ static uint32_t model_write(struct shape g, uint32_t *im, uint32_t n,
         }
         memset(head_of(g, im, v), 0xFF, (size_t)g.s * 512);
         head_of(g, im, v)[0] = count + 1;
+        then_erase(v);
+        then_program((size_t)(head_of(g, im, v) - im), count + 1);
         *words += 1;
         *erasures = 1;
         CHECK(model_target(g, im, &tb, &ts));
@@ -386,10 +452,12 @@ static uint32_t model_release(struct shape g, uint32_t *im, uint32_t n,
 {
     uint32_t *e = model_find(g, im, n);
 
+    row_length = 0;
     *words = *erasures = 0;
     if (!e)
         return 5;
     *e -= UINT32_C(0x80000000); /* bit 31, which every live entry has */
+    then_program((size_t)(e - im), *e);
     *words = 1;
     return 0;
 }
@@ -399,6 +467,7 @@ static uint32_t model_release(struct shape g, uint32_t *im, uint32_t n,
 static uint32_t words, erasures; /* of the last call */
 static uint32_t report[4];       /* mapped, free, dead, erase sum */
 static struct pair bad;          /* of the last call that gives one */
+static struct step told;         /* by the last call that tells a step */
 
 /* Stands for an answer that came with another pair than it ought to. */
 #define WRONG_PAIR UINT32_C(99)
@@ -428,6 +497,7 @@ static void poison(void)
 {
     words = erasures = POISON;
     bad = (struct pair){POISON, POISON};
+    told = (struct step){POISON, POISON, POISON};
     memset(report, 0xA5, sizeof report);
 }
 
@@ -495,6 +565,45 @@ static uint32_t do_release(struct shape g, uint32_t *im, uint32_t n)
                                         &bad.rule));
 }
 
+static uint32_t do_write_step(struct shape g, uint32_t *im, uint32_t n,
+                              const uint32_t *buffer, uint32_t i)
+{
+    poison();
+    return judged(g, im, second_write_step(g.b, g.s, g.l, im, len_of(g), n,
+                                           buffer, 128, i, &told.kind,
+                                           &told.place, &told.word,
+                                           &bad.block, &bad.rule));
+}
+
+static uint32_t do_release_step(struct shape g, uint32_t *im, uint32_t n,
+                                uint32_t i)
+{
+    poison();
+    return judged(g, im, second_release_step(g.b, g.s, g.l, im, len_of(g), n,
+                                             i, &told.kind, &told.place,
+                                             &told.word, &bad.block,
+                                             &bad.rule));
+}
+
+static uint32_t do_write_first(struct shape g, uint32_t *im, uint32_t n,
+                               const uint32_t *buffer, uint32_t most)
+{
+    poison();
+    return judged(g, im, second_write_first(g.b, g.s, g.l, im, len_of(g), n,
+                                            buffer, 128, most, &words,
+                                            &erasures, &bad.block,
+                                            &bad.rule));
+}
+
+static uint32_t do_release_first(struct shape g, uint32_t *im, uint32_t n,
+                                 uint32_t most)
+{
+    poison();
+    return judged(g, im, second_release_first(g.b, g.s, g.l, im, len_of(g), n,
+                                              most, &words, &erasures,
+                                              &bad.block, &bad.rule));
+}
+
 static uint32_t *fresh(struct shape g)
 {
     uint32_t *im = lend(g);
@@ -506,6 +615,12 @@ static uint32_t *fresh(struct shape g)
 static bool counts_are(uint32_t w, uint32_t e)
 {
     return words == w && erasures == e;
+}
+
+static bool told_is(struct step want)
+{
+    return told.kind == want.kind && told.place == want.place &&
+           told.word == want.word;
 }
 
 static bool report_is(struct shape g, uint32_t *im, uint32_t mapped,
@@ -913,6 +1028,62 @@ static bool release_answers(struct lent a, uint32_t *im, struct pair first,
            (release == 0 || counts_are(0, 0));
 }
 
+/* Another number of steps with each turn: refusals do not hang on it. */
+static uint32_t some_number(void)
+{
+    static const uint32_t numbers[] = {0, 1, 2, 130, 131, 1000, 0x80000000,
+                                       ONES};
+    static size_t turn;
+
+    return numbers[turn++ % (sizeof numbers / sizeof numbers[0])];
+}
+
+/* The calls that tell a step and that take the first steps.  Where the write
+ * is accepted no step is asked for, so that the image must stay as it is. */
+static bool write_parts_answer(struct lent a, uint32_t *im, struct pair first,
+                               uint32_t write)
+{
+    uint32_t buffer[SECTOR] = {0};
+    bool good = true;
+
+    poison();
+    good &= answers(second_write_step(a.g.b, a.g.s, a.g.l, im, a.im_words,
+                                      a.number, buffer, a.buffer_words,
+                                      write == 0 ? ONES : some_number(),
+                                      &told.kind, &told.place, &told.word,
+                                      &bad.block, &bad.rule), write, first);
+    good &= told_is(no_step);
+    poison();
+    good &= answers(second_write_first(a.g.b, a.g.s, a.g.l, im, a.im_words,
+                                       a.number, buffer, a.buffer_words,
+                                       write == 0 ? 0 : some_number(),
+                                       &words, &erasures, &bad.block,
+                                       &bad.rule), write, first);
+    return good && counts_are(0, 0);
+}
+
+static bool release_parts_answer(struct lent a, uint32_t *im,
+                                 struct pair first, uint32_t release)
+{
+    bool good = true;
+
+    poison();
+    good &= answers(second_release_step(a.g.b, a.g.s, a.g.l, im, a.im_words,
+                                        a.number,
+                                        release == 0 ? ONES : some_number(),
+                                        &told.kind, &told.place, &told.word,
+                                        &bad.block, &bad.rule),
+                    release, first);
+    good &= told_is(no_step);
+    poison();
+    good &= answers(second_release_first(a.g.b, a.g.s, a.g.l, im, a.im_words,
+                                         a.number,
+                                         release == 0 ? 0 : some_number(),
+                                         &words, &erasures, &bad.block,
+                                         &bad.rule), release, first);
+    return good && counts_are(0, 0);
+}
+
 static bool format_answers(struct lent a, uint32_t *im, uint32_t format)
 {
     poison();
@@ -931,6 +1102,8 @@ static void expect(struct lent a, struct shape real, uint32_t format,
     uint32_t *im = copy_of(real, a.im);
     bool good = lookups_answer(a, im, first, check, read);
 
+    good &= write_parts_answer(a, im, first, write);
+    good &= release_parts_answer(a, im, first, release);
     good &= same(real, im, a.im);
     good &= write_answers(a, im, first, write);
     good &= write == 0 || same(real, im, a.im);
@@ -1009,7 +1182,17 @@ static void test_refusal_1_of_nothing(void)
 
     CHECK(lookups_answer(a, NULL, no_fault, 1, 1));
     CHECK(release_answers(a, NULL, no_fault, 1));
+    CHECK(release_parts_answer(a, NULL, no_fault, 1));
     CHECK(format_answers(a, NULL, 1));
+    poison();
+    CHECK(second_write_step(8, 16, 90, NULL, 0, 0, NULL, 0, 0, &told.kind,
+                            &told.place, &told.word, &bad.block,
+                            &bad.rule) == 1);
+    CHECK(told_is(no_step) && bad_is(no_fault));
+    poison();
+    CHECK(second_write_first(8, 16, 90, NULL, 0, 0, NULL, 0, ONES, &words,
+                             &erasures, &bad.block, &bad.rule) == 1);
+    CHECK(counts_are(0, 0) && bad_is(no_fault));
     poison();
     CHECK(second_write(8, 16, 90, NULL, 0, 0, NULL, 0, &words, &erasures,
                        &bad.block, &bad.rule) == 1);
@@ -3561,6 +3744,675 @@ static void test_passing(void)
     test_small_images((struct shape){2, 3, 1});
 }
 
+/* ---- The steps of a call ------------------------------------------------ */
+
+/* A write of the data to n or, without data, a release of it. */
+struct order {
+    struct shape g;
+    uint32_t *im; /* as it is before the call */
+    uint32_t n;
+    const uint32_t *data;
+};
+
+static uint32_t ask(struct order o, uint32_t i)
+{
+    return o.data ? do_write_step(o.g, o.im, o.n, o.data, i)
+                  : do_release_step(o.g, o.im, o.n, i);
+}
+
+static uint32_t take_first(struct order o, uint32_t *im, uint32_t most)
+{
+    return o.data ? do_write_first(o.g, im, o.n, o.data, most)
+                  : do_release_first(o.g, im, o.n, most);
+}
+
+static uint32_t take_all(struct order o, uint32_t *im)
+{
+    return o.data ? do_write(o.g, im, o.n, o.data)
+                  : do_release(o.g, im, o.n);
+}
+
+#define TOLD(i, kind, place, word) \
+    CHECK(ask(o, i) == 0 && told_is((struct step){kind, place, word}))
+
+/* Takes one step by hand.  False if it is none, or if the word does not come
+ * out as it was asked for. */
+static bool apply(struct shape g, uint32_t *im, struct step s)
+{
+    if (s.kind == ERASE && s.place < g.b && s.word == 0) {
+        memset(head_of(g, im, s.place), 0xFF, (size_t)g.s * 512);
+        return true;
+    }
+    if (s.kind != PROGRAM || s.place >= len_of(g))
+        return false;
+    im[s.place] &= s.word;
+    return im[s.place] == s.word;
+}
+
+/* All of the row is told, and nothing behind it. */
+static bool tells_row(struct order o)
+{
+    static const uint32_t behind[] = {0, 1, 2, 0xFFFF, 0x10000, 0x7FFFFFFF};
+    bool good = true;
+
+    for (uint32_t i = 0; i < row_length; i++)
+        good &= ask(o, i) == 0 && told_is(row[i]);
+    for (size_t i = 0; i < sizeof behind / sizeof behind[0]; i++)
+        good &= ask(o, row_length + behind[i]) == 0 && told_is(no_step);
+    return good && ask(o, ONES) == 0 && told_is(no_step);
+}
+
+static bool leaves(uint32_t answer, struct shape g, const uint32_t *im,
+                   const uint32_t *want, uint32_t w, uint32_t e)
+{
+    return answer == 0 && counts_are(w, e) && same(g, im, want);
+}
+
+static bool stops_at(struct order o, uint32_t most, const uint32_t *want,
+                     uint32_t w, uint32_t e)
+{
+    uint32_t *im = copy_of(o.g, o.im);
+    bool good = leaves(take_first(o, im, most), o.g, im, want, w, e);
+
+    free(im);
+    return good;
+}
+
+/* Want is what the whole row leaves. */
+static bool takes_whole(struct order o, const uint32_t *want, uint32_t w,
+                        uint32_t e)
+{
+    uint32_t *im = copy_of(o.g, o.im);
+    bool good = leaves(take_all(o, im), o.g, im, want, w, e);
+
+    free(im);
+    return good && stops_at(o, row_length, want, w, e) &&
+           stops_at(o, row_length + 1, want, w, e) &&
+           stops_at(o, ONES, want, w, e);
+}
+
+/* Each beginning of the row, or each whose length the stride divides, leaves
+ * what the steps in it leave when they are taken by hand. */
+static bool takes_row(struct order o, uint32_t stride)
+{
+    uint32_t *want = copy_of(o.g, o.im);
+    uint32_t w = 0, e = 0;
+    bool good = true;
+
+    for (uint32_t j = 0; j < row_length; j++) {
+        if (j % stride == 0)
+            good &= stops_at(o, j, want, w, e);
+        good &= apply(o.g, want, row[j]);
+        w += row[j].kind == PROGRAM;
+        e += row[j].kind == ERASE;
+    }
+    good &= takes_whole(o, want, w, e);
+    free(want);
+    return good;
+}
+
+static void expect_row(struct order o, uint32_t stride, int line)
+{
+    uint32_t *was = copy_of(o.g, o.im);
+
+    check_at(tells_row(o), "the steps told", line);
+    check_at(takes_row(o, stride), "the steps taken", line);
+    check_at(same(o.g, o.im, was), "the image lent", line);
+    free(was);
+}
+
+#define EXPECT_ROW(length) \
+    (CHECK(row_length == (length)), expect_row(o, 1, __LINE__))
+
+/* No two words alike, so that each shows its place. */
+static void differing(uint32_t *data, uint32_t from)
+{
+    for (uint32_t i = 0; i < 128; i++)
+        data[i] = from + i * 0x01010101;
+}
+
+/* ---- Rows written out by hand ------------------------------------------- */
+
+static void test_row_of_first_write(void)
+{
+    struct shape g = {3, 5, 7};
+    uint32_t data[SECTOR];
+    struct order o = {g, fresh(g), 5, data};
+
+    differing(data, 0x12345678);
+    TOLD(0, 1, 3, 0xFFFFFFFE);
+    TOLD(1, 1, 128, 0x12345678);
+    TOLD(2, 1, 129, 0x13355779);
+    TOLD(128, 1, 255, data[127]);
+    TOLD(129, 1, 4, 0xE0000005);
+    TOLD(130, 1, 4, 0xC0000005);
+    TOLD(131, 0, 0, 0);
+
+    row_length = 0;
+    then_program(3, 0xFFFFFFFE);
+    then_sector(128, data);
+    then_program(4, 0xE0000005);
+    then_program(4, 0xC0000005);
+    EXPECT_ROW(131);
+    free(o.im);
+}
+
+static void test_row_of_overwrite(void)
+{
+    struct shape g = {3, 5, 7};
+    uint32_t data[SECTOR];
+    struct order o = {g, fresh(g), 5, data};
+
+    CHECK(do_fill(g, o.im, 5, 0x12345678) == 0);
+    differing(data, 77);
+    TOLD(0, 1, 3, 0xFFFFFFFC);
+    TOLD(1, 1, 4, 0x80000005);
+    TOLD(2, 1, 256, 77);
+    TOLD(132, 1, 4, 0x00000005);
+    TOLD(133, 0, 0, 0);
+
+    row_length = 0;
+    then_program(3, 0xFFFFFFFC);
+    then_program(4, 0x80000005);
+    then_sector(256, data);
+    then_program(5, 0xE0000005);
+    then_program(5, 0xC0000005);
+    then_program(4, 0x00000005);
+    EXPECT_ROW(133);
+    free(o.im);
+}
+
+/* The last slot of a block with two numbers live and one dead, then the first
+ * of the blank block with the lesser count. */
+static void test_row_of_filling(void)
+{
+    struct shape g = {3, 5, 7};
+    uint32_t data[SECTOR];
+    struct order o = {g, fresh(g), 3, data};
+
+    CHECK(do_fill(g, o.im, 6, 1) == 0 && do_fill(g, o.im, 5, 2) == 0);
+    CHECK(do_fill(g, o.im, 2, 3) == 0 && do_release(g, o.im, 6) == 0);
+    differing(data, 5);
+    row_length = 0;
+    then_program(3, 0xFFFFFFF0);
+    then_sector(512, data);
+    then_program(7, 0xE0000003);
+    then_program(7, 0xC0000003);
+    then_program(1, 2);
+    then_program(2, 5);
+    EXPECT_ROW(133);
+
+    CHECK(take_all(o, o.im) == 0);
+    o.im[640] = 3;
+    o.im[1280] = 2;
+    o.n = 2;
+    row_length = 0;
+    then_program(1283, 0xFFFFFFFE);
+    then_program(6, 0x80000002);
+    then_sector(1408, data);
+    then_program(1284, 0xE0000002);
+    then_program(1284, 0xC0000002);
+    then_program(6, 0x00000002);
+    EXPECT_ROW(133);
+    free(o.im);
+}
+
+static void test_row_of_release(void)
+{
+    struct shape g = {3, 5, 7};
+    struct order o = {g, fresh(g), 5, NULL};
+
+    CHECK(ask(o, 0) == 5 && told_is(no_step));
+    CHECK(do_fill(g, o.im, 5, 0x12345678) == 0);
+    TOLD(0, 1, 4, 0x40000005);
+    TOLD(1, 0, 0, 0);
+    TOLD(ONES, 0, 0, 0);
+    row_length = 0;
+    then_program(4, 0x40000005);
+    EXPECT_ROW(1);
+
+    seat(g, o.im, 2, 3, 0xC0000006);
+    o.n = 6;
+    row_length = 0;
+    then_program(1287, 0x40000006);
+    EXPECT_ROW(1);
+    free(o.im);
+}
+
+/* In an entry in passing there is nothing left for (b) to clear, but it has
+ * its turn. */
+static void test_rows_with_passing(void)
+{
+    struct shape g = {3, 5, 7};
+    uint32_t data[SECTOR];
+    struct order o = {g, half_way(g), 5, data};
+
+    differing(data, 9);
+    row_length = 0;
+    then_program(3, 0xFFFFFFF8);
+    then_program(4, 0x80000005);
+    then_sector(384, data);
+    then_program(6, 0xE0000005);
+    then_program(6, 0xC0000005);
+    then_program(4, 0x00000005);
+    EXPECT_ROW(133);
+
+    o.data = NULL;
+    row_length = 0;
+    then_program(4, 0x00000005);
+    EXPECT_ROW(1);
+    free(o.im);
+}
+
+/* The second and the third write of P9: a replacement that fills the block,
+ * then a reclaim, where the number written is the one that was moved. */
+static void test_rows_of_p9(void)
+{
+    struct shape g = {2, 3, 1};
+    uint32_t old[SECTOR], data[SECTOR];
+    struct order o = {g, fresh(g), 0, old};
+
+    CHECK(do_fill(g, o.im, 0, 1) == 0);
+    differing(old, 0x700);
+    row_length = 0;
+    then_program(3, 0xFFFFFFFC);
+    then_program(4, 0x80000000);
+    then_sector(256, old);
+    then_program(5, 0xE0000000);
+    then_program(5, 0xC0000000);
+    then_program(4, 0);
+    then_program(1, 0);
+    then_program(2, 0);
+    EXPECT_ROW(135);
+
+    CHECK(take_all(o, o.im) == 0);
+    o.data = data;
+    differing(data, 0x900);
+    TOLD(132, 1, 5, 0);
+    TOLD(133, 2, 0, 0);
+    TOLD(134, 1, 0, 1);
+    TOLD(135, 1, 387, 0xFFFFFFFC);
+    TOLD(269, 1, 386, 0);
+    TOLD(270, 0, 0, 0);
+
+    row_length = 0;
+    then_program(387, 0xFFFFFFFE);
+    then_program(5, 0x80000000);
+    then_sector(512, old);
+    then_program(388, 0xE0000000);
+    then_program(388, 0xC0000000);
+    then_program(5, 0);
+    then_erase(0);
+    then_program(0, 1);
+    then_program(387, 0xFFFFFFFC);
+    then_program(388, 0x80000000);
+    then_sector(640, data);
+    then_program(389, 0xE0000000);
+    then_program(389, 0xC0000000);
+    then_program(388, 0);
+    then_program(385, 0);
+    then_program(386, 0);
+    EXPECT_ROW(269 + 1);
+    free(o.im);
+}
+
+/* In (3,7,10), from a slot of block 0 to one of block 2, which is at 1792. */
+static void then_copy(uint32_t from, uint32_t to, uint32_t map, uint32_t n,
+                      uint32_t fill)
+{
+    then_program(1795, map);
+    then_program(4 + from, PASSING + n);
+    for (uint32_t i = 0; i < 128; i++)
+        then_program(1920 + 128 * to + i, fill);
+    then_program(1796 + to, 0xE0000000 + n);
+    then_program(1796 + to, 0xC0000000 + n);
+    then_program(4 + from, n);
+}
+
+static void then_reclaim_of_three(void)
+{
+    row_length = 0;
+    then_copy(1, 0, 0xFFFFFFFE, 3, 101);
+    then_copy(2, 1, 0xFFFFFFFC, 1, 102);
+    then_copy(5, 2, 0xFFFFFFF8, 0, 105);
+    then_erase(0);
+    then_program(0, 8);
+    then_program(1795, 0xFFFFFFF0);
+}
+
+/* Three copies, then a number that is mapped nowhere, one of the three that
+ * were moved, and one that stays in block 1. */
+static void test_rows_of_three_copies(void)
+{
+    static const struct { uint32_t n, old; } cases[] = {
+        {9, 0}, {3, 1796}, {1, 1797}, {0, 1798}, {4, 901}, {2, 900},
+    };
+    struct shape g = {3, 7, 10};
+    uint32_t data[SECTOR];
+    struct order o = {g, two_full(g), 0, data};
+
+    o.im[0] = 7;
+    differing(data, 0xFEDCBA98);
+    for (size_t i = 0; i < sizeof cases / sizeof cases[0]; i++) {
+        o.n = cases[i].n;
+        then_reclaim_of_three();
+        if (cases[i].old != 0)
+            then_program(cases[i].old, 0x80000000 + o.n);
+        then_sector(2304, data);
+        then_program(1799, 0xE0000000 + o.n);
+        then_program(1799, 0xC0000000 + o.n);
+        if (cases[i].old != 0)
+            then_program(cases[i].old, o.n);
+        EXPECT_ROW(3 * 133 + 2 + (cases[i].old == 0 ? 131u : 133u));
+        TOLD(3 * 133, 2, 0, 0);
+        TOLD(3 * 133 + 1, 1, 0, 8);
+    }
+    o.im[0] = 1000000;
+    CHECK(ask(o, 0) == 6 && told_is(no_step));
+    CHECK(take_first(o, o.im, 0) == 6 && counts_are(0, 0));
+    free(o.im);
+}
+
+/* The 106th write of a number alone: the row begins with the erase, and what
+ * follows goes to a block that was blank before. */
+static void test_row_without_copies(void)
+{
+    struct shape g = {8, 16, 90};
+    uint32_t data[SECTOR];
+    struct order o = {g, fresh(g), 0, data};
+
+    for (uint32_t i = 1; i <= 105; i++)
+        CHECK(do_fill(g, o.im, 0, i) == 0);
+    differing(data, 106);
+    row_length = 0;
+    then_erase(0);
+    then_program(0, 1);
+    then_program(14339, 0xFFFFFFFE);
+    then_program(12306, 0x80000000);
+    then_sector(14464, data);
+    then_program(14340, 0xE0000000);
+    then_program(14340, 0xC0000000);
+    then_program(12306, 0);
+    EXPECT_ROW(134 + 1);
+    free(o.im);
+}
+
+/* Block 1 of (2,34,32), which lies at 4352: slot 7 is dead, the others hold
+ * all numbers, the greatest first. */
+static uint32_t *one_dead(struct shape g)
+{
+    uint32_t *im = fresh(g);
+
+    for (uint32_t s = 0; s < 33; s++) {
+        seat(g, im, 1, s, s == 7 ? 9 : LIVE + (s < 7 ? 31 - s : 32 - s));
+        pour(g, im, 1, s, 1000 + s);
+    }
+    im[0] = 900;
+    im[4352] = 41;
+    im[4353] = 0;
+    im[4354] = 31;
+    CHECK(do_check(g, im) == 0);
+    return im;
+}
+
+/* So many copies that the write after them goes by the second map word. */
+static void test_row_over_two_map_words(void)
+{
+    struct shape g = {2, 34, 32};
+    uint32_t data[SECTOR];
+    struct order o = {g, one_dead(g), 9, data};
+
+    differing(data, 3);
+    row_length = 0;
+    for (uint32_t m = 0; m < 32; m++) {
+        uint32_t from = m < 7 ? m : m + 1;
+
+        then_program(3, m < 31 ? ONES << (m + 1) : 0);
+        then_program(4357 + from, 0x80000000 + 31 - m);
+        for (uint32_t i = 0; i < 128; i++)
+            then_program(128 * (m + 1) + i, 1000 + from);
+        then_program(5 + m, 0xE0000000 + 31 - m);
+        then_program(5 + m, 0xC0000000 + 31 - m);
+        then_program(4357 + from, 31 - m);
+    }
+    then_erase(1);
+    then_program(4352, 42);
+    then_program(4, 0xFFFFFFFE);
+    then_program(27, 0x80000009);
+    then_sector(4224, data);
+    then_program(37, 0xE0000009);
+    then_program(37, 0xC0000009);
+    then_program(27, 9);
+    then_program(1, 0);
+    then_program(2, 31);
+    CHECK(row_length == 32 * 133 + 2 + 135);
+    expect_row(o, 37, __LINE__);
+    free(o.im);
+}
+
+/* ---- Where the first steps stop ----------------------------------------- */
+
+static void test_most(void)
+{
+    static const struct { uint32_t most, words; } cases[] = {
+        {0, 0}, {1, 1}, {2, 2}, {130, 130}, {131, 131}, {132, 131},
+        {0x80000000, 131}, {0x80000001, 131}, {0xFFFFFFFF, 131},
+    };
+    struct shape g = {3, 5, 7};
+    uint32_t *was = fresh(g), *im = lend(g);
+    uint32_t data[SECTOR];
+
+    differing(data, 0x12345678);
+    for (size_t i = 0; i < sizeof cases / sizeof cases[0]; i++) {
+        uint32_t w = cases[i].words;
+
+        memcpy(im, was, len_of(g) * sizeof *im);
+        CHECK(do_write_first(g, im, 5, data, cases[i].most) == 0);
+        CHECK(counts_are(w, 0));
+        CHECK(im[3] == (w == 0 ? ONES : 0xFFFFFFFE));
+        CHECK(im[128] == (w < 2 ? ONES : 0x12345678));
+        CHECK(im[255] == (w < 129 ? ONES : data[127]));
+        CHECK(im[4] == (w < 130 ? ONES : w == 130 ? 0xE0000005 : 0xC0000005));
+    }
+    CHECK(do_release_first(g, im, 5, 0) == 0 && counts_are(0, 0));
+    CHECK(im[4] == 0xC0000005);
+    CHECK(do_release_first(g, im, 5, 1) == 0 && counts_are(1, 0));
+    CHECK(im[4] == 0x40000005);
+    CHECK(do_release_first(g, im, 5, 0) == 5 && counts_are(0, 0));
+    im[4] = 0xC0000005;
+    CHECK(do_release_first(g, im, 5, 2) == 0 && counts_are(1, 0));
+    im[4] = 0xC0000005;
+    CHECK(do_release_first(g, im, 5, ONES) == 0 && counts_are(1, 0));
+    CHECK(im[4] == 0x40000005);
+    free(was);
+    free(im);
+}
+
+/* Around the erase of P9's third write. */
+static void test_most_around_erase(void)
+{
+    struct shape g = {2, 3, 1};
+    uint32_t *was = fresh(g), *im = lend(g);
+    uint32_t data[SECTOR] = {3};
+
+    CHECK(do_fill(g, was, 0, 1) == 0 && do_fill(g, was, 0, 2) == 0);
+    memcpy(im, was, len_of(g) * sizeof *im);
+    CHECK(do_write_first(g, im, 0, data, 133) == 0 && counts_are(133, 0));
+    CHECK(im[0] == 0 && im[5] == 0 && all_are(im + 256, 128, 2));
+    CHECK(do_check(g, im) == 4 && bad_is((struct pair){2, 6}));
+    memcpy(im, was, len_of(g) * sizeof *im);
+    CHECK(do_write_first(g, im, 0, data, 134) == 0 && counts_are(133, 1));
+    CHECK(all_are(im, 384, ONES));
+    CHECK(do_check(g, im) == 4 && bad_is((struct pair){0, 1}));
+    memcpy(im, was, len_of(g) * sizeof *im);
+    CHECK(do_write_first(g, im, 0, data, 135) == 0 && counts_are(134, 1));
+    CHECK(im[0] == 1 && all_are(im + 1, 383, ONES));
+    CHECK(reads_fill(g, im, 0, 2) && report_is(g, im, 1, 3, 0, 1));
+    free(was);
+    free(im);
+}
+
+/* Of an overwrite: the old contents up to (d), after (e) an image for which
+ * every call refuses, after (f) the new contents. */
+static void test_reads_between(void)
+{
+    struct shape g = {3, 5, 7};
+    uint32_t *was = fresh(g), *im = lend(g);
+    uint32_t data[SECTOR] = {0};
+
+    CHECK(do_fill(g, was, 5, 0x12345678) == 0);
+    for (uint32_t j = 0; j <= 133; j++) {
+        memcpy(im, was, len_of(g) * sizeof *im);
+        CHECK(do_write_first(g, im, 5, data, j) == 0 && counts_are(j, 0));
+        if (j == 132) {
+            VERDICT(0, 8);
+            REFUSED_BY_ALL(5);
+        } else {
+            VERDICT(0, 0);
+            CHECK(reads_fill(g, im, 5, j < 132 ? 0x12345678 : 0));
+        }
+    }
+    free(was);
+    free(im);
+}
+
+/* ---- Rows of drawn calls, against the second account -------------------- */
+
+static uint32_t model_call(struct order o, uint32_t *im, uint32_t *w,
+                           uint32_t *e)
+{
+    return o.data ? model_write(o.g, im, o.n, o.data, w, e)
+                  : model_release(o.g, im, o.n, w, e);
+}
+
+static void refuses_parts(struct order o, uint32_t want)
+{
+    uint32_t *im = copy_of(o.g, o.im);
+
+    CHECK(ask(o, some_number()) == want && told_is(no_step));
+    CHECK(take_first(o, im, some_number()) == want && counts_are(0, 0));
+    CHECK(same(o.g, im, o.im));
+    free(im);
+}
+
+/* Gives the erasures of the call.  The image is taken on by the row, which is
+ * then known to be the one told. */
+static uint32_t call_by_steps(struct order o, uint32_t stride)
+{
+    uint32_t *model = copy_of(o.g, o.im);
+    uint32_t w, e;
+    uint32_t answer = model_call(o, model, &w, &e);
+
+    if (answer != 0) {
+        refuses_parts(o, answer);
+    } else {
+        CHECK(row_length == w + e);
+        expect_row(o, stride, __LINE__);
+        for (uint32_t i = 0; i < row_length; i++)
+            CHECK(apply(o.g, o.im, row[i]));
+    }
+    CHECK(same(o.g, o.im, model));
+    free(model);
+    return e;
+}
+
+static uint32_t some_calls_by_steps(struct shape g, uint32_t *im,
+                                    uint32_t calls)
+{
+    uint32_t data[SECTOR];
+    uint32_t erased = 0;
+
+    for (uint32_t i = 0; i < calls; i++) {
+        struct order o = {g, im, below(g.l), below(4) ? data : NULL};
+
+        for (uint32_t j = 0; j < 128; j++)
+            data[j] = rnd();
+        erased += call_by_steps(o, 23 + below(40));
+    }
+    return erased;
+}
+
+static void test_drawn_rows(void)
+{
+    static const struct shape shapes[] = {
+        {2, 3, 1}, {3, 2, 1}, {3, 5, 7}, {4, 4, 8}, {4, 5, 6}, {6, 3, 9},
+    };
+    uint32_t erased = 0;
+
+    for (uint32_t round = 0; round < 120; round++) {
+        struct shape g = shapes[round % 6];
+        uint32_t *im = lend(g);
+
+        draw_image(g, im);
+        erased += some_calls_by_steps(g, im, 3);
+        free(im);
+    }
+    CHECK(erased > 50);
+}
+
+/* From a fresh image on, and all the way by steps. */
+static void test_runs_by_steps(void)
+{
+    static const struct shape shapes[] = {{2, 3, 1}, {3, 2, 1}, {3, 5, 7}};
+
+    for (size_t i = 0; i < sizeof shapes / sizeof shapes[0]; i++) {
+        uint32_t *im = fresh(shapes[i]);
+
+        CHECK(some_calls_by_steps(shapes[i], im, 50) > 0);
+        free(im);
+    }
+}
+
+/* The longest row there is.  Few of its steps are asked for: each call looks
+ * at an image of two million bytes. */
+static void test_longest_row(void)
+{
+    static const uint32_t some[] = {0, 1, 2, 132, 133, 8245, 8246, 8247, 8248,
+                                    8249, 8380, 8381, 8382};
+    struct shape g = {64, 64, 3968};
+    uint32_t data[SECTOR];
+    struct order o = {g, packed(g, 50), 1234, data};
+    uint32_t *want = copy_of(g, o.im), *model = copy_of(g, o.im);
+    uint32_t w, e, next = 0;
+
+    differing(data, 1);
+    CHECK(model_call(o, model, &w, &e) == 0 && w == 8382 && e == 1);
+    CHECK(row_length == LONGEST_ROW && row[8246].kind == ERASE);
+    for (uint32_t j = 0; j < row_length; j++) {
+        if (j == some[next]) {
+            CHECK(ask(o, j) == 0 && told_is(row[j]));
+            CHECK(stops_at(o, j, want, j - (j > 8246), j > 8246));
+            next++;
+        }
+        CHECK(apply(g, want, row[j]));
+    }
+    CHECK(ask(o, 8383) == 0 && told_is(no_step));
+    CHECK(ask(o, ONES) == 0 && told_is(no_step));
+    CHECK(takes_whole(o, model, 8382, 1) && same(g, want, model));
+    free(o.im);
+    free(want);
+    free(model);
+}
+
+static void test_steps(void)
+{
+    test_row_of_first_write();
+    test_row_of_overwrite();
+    test_row_of_filling();
+    test_row_of_release();
+    test_rows_with_passing();
+    test_rows_of_p9();
+    test_rows_of_three_copies();
+    test_row_without_copies();
+    test_row_over_two_map_words();
+    test_most();
+    test_most_around_erase();
+    test_reads_between();
+    test_drawn_rows();
+    test_runs_by_steps();
+    test_longest_row();
+}
+
 int main(void)
 {
     test_p1();
@@ -3586,6 +4438,7 @@ int main(void)
     test_damaged_images();
     test_tables();
     test_passing();
+    test_steps();
     printf("%lu passed, %lu failed\n", passed, failed);
     return failed == 0 ? 0 : 1;
 }
