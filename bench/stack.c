@@ -2,17 +2,19 @@
  *
  * A call runs on a stack of its own that was painted before, and the deepest word that lost its paint tells. The image is one on which
  * a write has to reclaim and to copy. The lookup table misleads for every number, so that a call that takes it looks there and then has
- * to search as well. The damaged image has one superseded slot, in the last block that is in use: rule 8 is the last one of a block. */
+ * to search as well. The damaged image has one superseded slot, in the last block that is in use: rule 8 is the last one of a block. A step
+ * call is made for many steps, and the deepest one tells. */
 #include <ucontext.h>
 
 #include "images.h"
 
-enum { LIMIT = 4096, STACK_WORDS = 16384, NUMBER = 3 };
+enum { LIMIT = 4096, STACK_WORDS = 16384, NUMBER = 3, COPY_STEPS = 133 };
 static const uint32_t PAINT = 0xA5C3A5C3u;
 static const struct geometry g = {64, 64, 3968};
 
 static uint32_t stack[STACK_WORDS];
-static uint32_t *image, buffer[SECTOR], count[4], bad[2], answer;
+static uint32_t *image, buffer[SECTOR], count[4], bad[2], answer, kind, word;
+static size_t place;
 static uint16_t table[SHELLWALTZ_MOST_LOGICAL(64, 64)];
 static ucontext_t here, there;
 
@@ -53,6 +55,46 @@ static void call_write(void)
 static void call_release(void)
 {
     answer = shellwaltz_release(g.blocks, g.sectors, g.logical, image, words_of(g), NUMBER, count, count + 1, bad, bad + 1);
+}
+
+static uint32_t kind_in_write(uint32_t step)
+{
+    answer = shellwaltz_write_step(g.blocks, g.sectors, g.logical, image, words_of(g), NUMBER, buffer, SECTOR, step, &kind, &place, &word,
+                                   bad, bad + 1);
+    return kind;
+}
+
+/* Each step of the first copy, the first one of every other, and all from the erasure on to one past the end. */
+static void call_write_step(void)
+{
+    uint32_t step = 0;
+    while (kind_in_write(step) == SHELLWALTZ_PROGRAM)
+        step += step < COPY_STEPS ? 1 : COPY_STEPS;
+    if (answer == 0 && (step < COPY_STEPS || kind != SHELLWALTZ_ERASE))
+        fail("the write did not copy and reclaim");
+    do
+        step++;
+    while (kind_in_write(step) != SHELLWALTZ_DONE);
+}
+
+/* Its one step, and that it has no other. */
+static void call_release_step(void)
+{
+    for (uint32_t step = 0; step < 2; step++)
+        answer = shellwaltz_release_step(g.blocks, g.sectors, g.logical, image, words_of(g), NUMBER, step, &kind, &place, &word, bad, bad + 1);
+}
+
+static void call_write_first(void)
+{
+    answer = shellwaltz_write_first(g.blocks, g.sectors, g.logical, image, words_of(g), NUMBER, buffer, SECTOR, UINT32_MAX, count, count + 1,
+                                    bad, bad + 1);
+    if (answer == 0 && count[1] != 1)
+        fail("the write did not reclaim");
+}
+
+static void call_release_first(void)
+{
+    answer = shellwaltz_release_first(g.blocks, g.sectors, g.logical, image, words_of(g), NUMBER, UINT32_MAX, count, count + 1, bad, bad + 1);
 }
 
 static void call_build_table(void)
@@ -140,6 +182,8 @@ int main(void)
         void (*call)(void);
     } calls[] = {{"format", call_format}, {"check", call_check}, {"report", call_report},
                  {"read", call_read}, {"write with reclaim", call_write}, {"release", call_release},
+                 {"write_step with reclaim", call_write_step}, {"release_step", call_release_step},
+                 {"write_first with reclaim", call_write_first}, {"release_first", call_release_first},
                  {"build_table", call_build_table}, {"read_with_table", call_read_with_table},
                  {"write_with_table with reclaim", call_write_with_table}, {"release_with_table", call_release_with_table}};
     uint32_t *master = malloc(words_of(g) * sizeof *master);

@@ -1,4 +1,4 @@
-/* The calls that are compared, with and without a table, and the sides that they are made on. */
+/* The calls that are compared, whole ones with and without a table and by steps, and the sides that they are made on. */
 #ifndef CALLS_H
 #define CALLS_H
 
@@ -12,11 +12,19 @@ enum { SMALL_IMAGE = 8192 }; /* words of an image on which a call takes next to 
 
 /* ---- Sides: each has words of its own, with guard words on both ends. */
 
+/* A step as a call tells it: what it is, the word's place or the block, and the word that is asked for. */
+struct step {
+    uint32_t kind;
+    size_t place;
+    uint32_t word;
+};
+
 struct side {
     const char *name;
     uint32_t *image, *buffer; /* behind the guard */
     uint16_t *table;
     uint32_t answer, count[4], bad_block, bad_rule;
+    struct step step;
 };
 
 static void fail(const char *why)
@@ -50,17 +58,53 @@ static struct side make_side(const char *name, size_t image_words)
 
 /* ---- Calls */
 
-enum call { FORMAT, CHECK, REPORT, READ, WRITE, RELEASE, BUILD_TABLE, READ_WITH_TABLE, WRITE_WITH_TABLE, RELEASE_WITH_TABLE, CALLS };
+enum call {
+    FORMAT,
+    CHECK,
+    REPORT,
+    READ,
+    WRITE,
+    RELEASE,
+    BUILD_TABLE,
+    READ_WITH_TABLE,
+    WRITE_WITH_TABLE,
+    RELEASE_WITH_TABLE,
+    WRITE_STEP,
+    RELEASE_STEP,
+    WRITE_FIRST,
+    RELEASE_FIRST,
+    CALLS
+};
 static const char *const names[CALLS] = {"format",      "check",           "report",           "read",              "write", "release",
-                                         "build_table", "read_with_table", "write_with_table", "release_with_table"};
+                                         "build_table", "read_with_table", "write_with_table", "release_with_table",
+                                         "write_step",  "release_step",    "write_first",      "release_first"};
 
 /* The calls that do the same without a table. Of a build that is a check: it looks at the whole image, and leaves it. */
 static const enum call without_table[CALLS] = {
     [BUILD_TABLE] = CHECK, [READ_WITH_TABLE] = READ, [WRITE_WITH_TABLE] = WRITE, [RELEASE_WITH_TABLE] = RELEASE};
 
+/* The calls whose steps are told, or done up to some number. */
+static const enum call whole_call[CALLS] = {
+    [WRITE_STEP] = WRITE, [RELEASE_STEP] = RELEASE, [WRITE_FIRST] = WRITE, [RELEASE_FIRST] = RELEASE};
+
 static bool takes_table(enum call c)
 {
-    return c >= BUILD_TABLE;
+    return c >= BUILD_TABLE && c <= RELEASE_WITH_TABLE;
+}
+
+static bool tells_a_step(enum call c)
+{
+    return c == WRITE_STEP || c == RELEASE_STEP;
+}
+
+static bool does_first_steps(enum call c)
+{
+    return c == WRITE_FIRST || c == RELEASE_FIRST;
+}
+
+static bool goes_by_steps(enum call c)
+{
+    return tells_a_step(c) || does_first_steps(c);
 }
 
 static bool writes(enum call c)
@@ -74,6 +118,7 @@ struct asked {
     size_t image_words, buffer_words, table_words;
     uint32_t number;
     enum table_kind kind;
+    uint32_t step; /* the one that is to be told, or how many are to be done at most */
 };
 
 static void call(const struct layer *layer, struct side *s, struct asked a)
@@ -82,6 +127,7 @@ static void call(const struct layer *layer, struct side *s, struct asked a)
     uint32_t *image = s->image, *buffer = s->buffer, answer;
     uint16_t *table = s->table;
     size_t words = a.image_words, bw = a.buffer_words, tw = a.table_words;
+    struct step *t = &s->step;
     switch (a.call) {
     case FORMAT: answer = layer->format(b, p, l, image, words, n, n + 1); break;
     case CHECK: answer = layer->check(b, p, l, image, words, bad, rule); break;
@@ -92,7 +138,13 @@ static void call(const struct layer *layer, struct side *s, struct asked a)
     case BUILD_TABLE: answer = layer->build_table(b, p, l, image, words, table, tw, bad, rule); break;
     case READ_WITH_TABLE: answer = layer->read_with_table(b, p, l, image, words, i, buffer, bw, table, tw, bad, rule); break;
     case WRITE_WITH_TABLE: answer = layer->write_with_table(b, p, l, image, words, i, buffer, bw, table, tw, n, n + 1, bad, rule); break;
-    default: answer = layer->release_with_table(b, p, l, image, words, i, table, tw, n, n + 1, bad, rule); break;
+    case RELEASE_WITH_TABLE: answer = layer->release_with_table(b, p, l, image, words, i, table, tw, n, n + 1, bad, rule); break;
+    case WRITE_STEP:
+        answer = layer->write_step(b, p, l, image, words, i, buffer, bw, a.step, &t->kind, &t->place, &t->word, bad, rule);
+        break;
+    case RELEASE_STEP: answer = layer->release_step(b, p, l, image, words, i, a.step, &t->kind, &t->place, &t->word, bad, rule); break;
+    case WRITE_FIRST: answer = layer->write_first(b, p, l, image, words, i, buffer, bw, a.step, n, n + 1, bad, rule); break;
+    default: answer = layer->release_first(b, p, l, image, words, i, a.step, n, n + 1, bad, rule); break;
     }
     s->answer = answer;
 }
@@ -110,6 +162,9 @@ static enum call some_name(struct geometry g)
         {WRITE, WRITE, WRITE, WRITE, WRITE, WRITE, READ, READ, READ, RELEASE, RELEASE, CHECK, REPORT},
         {WRITE_WITH_TABLE, WRITE_WITH_TABLE, WRITE_WITH_TABLE, WRITE_WITH_TABLE, WRITE_WITH_TABLE, WRITE_WITH_TABLE, READ_WITH_TABLE,
          READ_WITH_TABLE, READ_WITH_TABLE, RELEASE_WITH_TABLE, RELEASE_WITH_TABLE, BUILD_TABLE, BUILD_TABLE}};
+    static const enum call by_steps[] = {WRITE_STEP, WRITE_STEP, RELEASE_STEP, WRITE_FIRST, WRITE_FIRST, RELEASE_FIRST};
+    if (one_in(8))
+        return by_steps[below(6)];
     bool with_table = one_in(words_of(g) <= SMALL_IMAGE ? 2 : 6);
     return one_in(300) ? FORMAT : often[with_table][below(13)];
 }

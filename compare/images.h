@@ -231,6 +231,12 @@ static uint32_t some_used(uint32_t style, uint32_t slots)
     }
 }
 
+static void erase_all(struct geometry g, uint32_t *image)
+{
+    for (size_t w = 0; w < words_of(g); w++)
+        image[w] = ONES;
+}
+
 /* A well-formed image with nothing in it that a run of writes would have to have made. */
 static void make_image(struct geometry g, uint32_t *image)
 {
@@ -238,8 +244,7 @@ static void make_image(struct geometry g, uint32_t *image)
     uint32_t blank = below(g.blocks), style = below(4);
     bool has_dead_blocks = one_in(3);
     shuffle_numbers(&numbers, g);
-    for (size_t w = 0; w < words_of(g); w++)
-        image[w] = ONES;
+    erase_all(g, image);
     for (uint32_t b = 0; b < g.blocks; b++) {
         enum mix mix = has_dead_blocks && one_in(3) ? (one_in(2) ? DEAD_ALONE : TAKEN_ALONE) : LIVE_AND_DEAD;
         make_block(g, block_of(g, image, b), b == blank ? 0 : some_used(style, slots_of(g)), mix, &numbers);

@@ -44,13 +44,13 @@ static void end_placings_early(struct geometry g, uint32_t *image)
     take_lowest_free_slot(g, block_of(g, image, below(g.blocks)));
 }
 
-/* A number that is in passing somewhere; the other one if none is. */
-static uint32_t some_number_in_passing(struct geometry g, uint32_t *image, uint32_t other)
+/* A number of which some entry says so, for example that it is in passing; the other one if none does. */
+static uint32_t some_number_that(bool (*says_so)(struct geometry, uint32_t), struct geometry g, uint32_t *image, uint32_t other)
 {
     uint32_t places = places_of(g), start = below(places);
     for (uint32_t i = 0; i < places; i++) {
         uint32_t entry = entry_at(g, image, (start + i) % places);
-        if (says_passing(g, entry))
+        if (says_so(g, entry))
             return number_in(entry);
     }
     return other;
@@ -136,11 +136,12 @@ static void count_write_over_passing(struct asked a, uint32_t *before, const str
     met_with.words[1] += s->count[1] == 0 && s->count[0] == 135;
 }
 
-/* A call that was accepted, on the image that was there before it. A format looks at none. */
+/* A call that was accepted, on the image that was there before it. A format looks at none, and what a call by steps meets with the whole call
+ * meets with too. */
 static void count_accepted(struct asked a, uint32_t *before, const struct side *s, const struct lending *lent)
 {
     enum call plain = takes_table(a.call) ? without_table[a.call] : a.call;
-    if (a.call == FORMAT)
+    if (a.call == FORMAT || goes_by_steps(a.call))
         return;
     count_findings(a.g, before);
     if (writes(a.call))

@@ -6,18 +6,20 @@
  * than 4 KiB of stack.
  *
  * The image is memory, a mirror of the part. A call's contract fixes the image that the call leaves, and not the stores on the way, so a
- * store is not the programming of a word: after an accepted call the driver carries the changes over to the part (docs/USING.md).
- * docs/FORMAT.md says what the words of an image mean and what each call does.
+ * store is not the programming of a word: of an accepted call the driver carries the changes over to the part (docs/USING.md). Of a write
+ * or a release the step calls tell them, word by word and in their order. docs/FORMAT.md says what the words of an image mean and what
+ * each call does.
  *
  * The header has two layers. First the proved functions, with every part of what they take and give as a parameter. Below them, and
  * shorter to call, functions over a struct for the part and results by value; they only pass on (see "The short calls").
  *
  * What is handed in: every number may have any value, and an image, a buffer or a table any length and contents. A pointer must be good for
- * the length handed in with it (also where that is 0), and a pointer to a single number for one uint32_t. What a call writes (an image,
+ * the length handed in with it (also where that is 0), and a pointer to a single number for one of its type. What a call writes (an image,
  * buffer or table that is not const, and the numbers) must overlap with nothing else that is handed to it. Lengths are in words, not bytes.
  *
  * What comes back: SHELLWALTZ_OK, or the first refusal below that applies, in the order of their numbers. A refused call changes no
- * word of the image, none of the buffer and none of the table, and gives 0 for every count. So a call either does all of its work or none.
+ * word of the image, none of the buffer and none of the table, and gives 0 for every count and no step. So a call either does all of its
+ * work or none.
  *
  * SHELLWALTZ_MALFORMED comes with the block and the rule (1 to 8, docs/FORMAT.md) that fail first: blocks in ascending order, and within a
  * block its rules in the order of their numbers. A number that is stored in two slots is charged to the block of the later one. Rule 6, that
@@ -58,6 +60,11 @@ extern "C" {
 #define SHELLWALTZ_MALFORMED 4u    /* the image breaks a rule of the format */
 #define SHELLWALTZ_UNMAPPED 5u     /* nothing is stored under the number */
 #define SHELLWALTZ_WORN_OUT 6u     /* the write would erase a block that is at the ceiling */
+
+/* The kinds of step. */
+#define SHELLWALTZ_DONE 0u    /* no step: the call has no more, or is refused */
+#define SHELLWALTZ_PROGRAM 1u /* a word to program */
+#define SHELLWALTZ_ERASE 2u   /* a block to erase */
 
 /* Makes a fresh image of whatever the words held: nothing stored, every block counted as never erased. Refuses 1.
  * Sets *words and *erasures to 0: preparing a part is not counted. */
@@ -118,9 +125,47 @@ uint32_t shellwaltz_release_with_table(uint32_t blocks, uint32_t sectors, uint32
                                        uint32_t number, uint16_t *table, size_t table_words, uint32_t *words, uint32_t *erasures,
                                        uint32_t *bad_block, uint32_t *bad_rule);
 
+/* ---- A write and a release step by step. Each is a list of steps, in a fixed order: a step programs a word, in which bits are cleared and
+ * none is set, or erases a block, of which every word is all ones then. docs/FORMAT.md has the lists.
+ *
+ * A step call is for the driver: it tells one step of the call on this image, so that the call can be carried out on the part, one word or
+ * block at a time, before it is done on the mirror. It changes nothing. Ask for step 0, 1, 2 and so on, with the same image, number and buffer,
+ * do on the part what comes back, stop at SHELLWALTZ_DONE, and then make the whole call. *kind says what the step is:
+ *
+ *   SHELLWALTZ_PROGRAM  *place is the place of the word in the image, counted in words from 0, and *word is what the word is to hold
+ *   SHELLWALTZ_ERASE    *place is the number of the block, and *word is 0
+ *   SHELLWALTZ_DONE     there is no such step: the call has `step` steps or fewer; *place and *word are 0
+ *
+ * It refuses what the whole call refuses, by the same number, and a refused one has no step. Each step call checks the whole image anew. */
+
+/* Step `step`, from 0, of shellwaltz_write. Refuses 1, 2, 3, 4 and 6. Changes no word of the image or of the buffer. */
+uint32_t shellwaltz_write_step(uint32_t blocks, uint32_t sectors, uint32_t logical, const uint32_t *image, size_t image_words,
+                               uint32_t number, const uint32_t *buffer, size_t buffer_words, uint32_t step,
+                               uint32_t *kind, size_t *place, uint32_t *word, uint32_t *bad_block, uint32_t *bad_rule);
+
+/* Step `step`, from 0, of shellwaltz_release. Refuses 1, 3, 4 and 5. Changes no word of the image. */
+uint32_t shellwaltz_release_step(uint32_t blocks, uint32_t sectors, uint32_t logical, const uint32_t *image, size_t image_words,
+                                 uint32_t number, uint32_t step, uint32_t *kind, size_t *place, uint32_t *word,
+                                 uint32_t *bad_block, uint32_t *bad_rule);
+
+/* The calls for the first steps carry these out on the image: `most` of them, which may be any number, or all where there are fewer. They
+ * refuse what the whole call refuses. *words and *erasures count what was done, and not what the whole call would do. After fewer than all
+ * steps the image is that of a part whose supply was cut after the last of them, and it need not be well formed. They take no table: after one,
+ * build it anew, which is refused with 4 while the image is not well formed. */
+
+/* The first steps of shellwaltz_write. Refuses 1, 2, 3, 4 and 6. Changes no word of the buffer. */
+uint32_t shellwaltz_write_first(uint32_t blocks, uint32_t sectors, uint32_t logical, uint32_t *image, size_t image_words,
+                                uint32_t number, const uint32_t *buffer, size_t buffer_words, uint32_t most,
+                                uint32_t *words, uint32_t *erasures, uint32_t *bad_block, uint32_t *bad_rule);
+
+/* The first steps of shellwaltz_release. Refuses 1, 3, 4 and 5. */
+uint32_t shellwaltz_release_first(uint32_t blocks, uint32_t sectors, uint32_t logical, uint32_t *image, size_t image_words,
+                                  uint32_t number, uint32_t most, uint32_t *words, uint32_t *erasures,
+                                  uint32_t *bad_block, uint32_t *bad_rule);
+
 /* ---- The short calls: each passes the part and its own arguments on to the proved function of the same name, and nothing else; a read, a
- * write or a release of a part that has a lookup table, to the one with a table. A buffer is always 128 words here. What is said above of
- * pointers holds of the part's image and table as well. */
+ * write or a release of a part that has a lookup table, to the one with a table. (Step by step there is none: the table stays as it is.)
+ * A buffer is always 128 words here. What is said above of pointers holds of the part's image and table as well. */
 
 /* A part: its geometry, the image that mirrors it, and its lookup table, if it has one (else `table` is a null pointer). SHELLWALTZ_PART
  * initialises one without a table and SHELLWALTZ_PART_WITH_TABLE one with a table of `logical` words, both with an image of the words that
@@ -148,6 +193,13 @@ struct shellwaltz_result {
 /* What a report gave. */
 struct shellwaltz_totals {
     uint32_t answer, mapped, free_slots, dead, erase_sum, bad_block, bad_rule;
+};
+
+/* What a call for one step gave. */
+struct shellwaltz_step {
+    uint32_t answer, kind;
+    size_t place;
+    uint32_t word, bad_block, bad_rule;
 };
 
 static inline struct shellwaltz_result shellwaltz_part_format(const struct shellwaltz_part *part)
@@ -218,6 +270,42 @@ static inline struct shellwaltz_result shellwaltz_part_release(const struct shel
     else
         r.answer = shellwaltz_release(part->blocks, part->sectors, part->logical, part->image, part->image_words, number, &r.words,
                                       &r.erasures, &r.bad_block, &r.bad_rule);
+    return r;
+}
+
+/* Of the write from these 128 words. */
+static inline struct shellwaltz_step shellwaltz_part_write_step(const struct shellwaltz_part *part, uint32_t number, const uint32_t *buffer,
+                                                                uint32_t step)
+{
+    struct shellwaltz_step s = {0, 0, 0, 0, 0, 0};
+    s.answer = shellwaltz_write_step(part->blocks, part->sectors, part->logical, part->image, part->image_words, number, buffer,
+                                     SHELLWALTZ_SECTOR_WORDS, step, &s.kind, &s.place, &s.word, &s.bad_block, &s.bad_rule);
+    return s;
+}
+
+static inline struct shellwaltz_step shellwaltz_part_release_step(const struct shellwaltz_part *part, uint32_t number, uint32_t step)
+{
+    struct shellwaltz_step s = {0, 0, 0, 0, 0, 0};
+    s.answer = shellwaltz_release_step(part->blocks, part->sectors, part->logical, part->image, part->image_words, number, step, &s.kind,
+                                       &s.place, &s.word, &s.bad_block, &s.bad_rule);
+    return s;
+}
+
+/* Of the write from these 128 words. */
+static inline struct shellwaltz_result shellwaltz_part_write_first(const struct shellwaltz_part *part, uint32_t number,
+                                                                   const uint32_t *buffer, uint32_t most)
+{
+    struct shellwaltz_result r = {0, 0, 0, 0, 0};
+    r.answer = shellwaltz_write_first(part->blocks, part->sectors, part->logical, part->image, part->image_words, number, buffer,
+                                      SHELLWALTZ_SECTOR_WORDS, most, &r.words, &r.erasures, &r.bad_block, &r.bad_rule);
+    return r;
+}
+
+static inline struct shellwaltz_result shellwaltz_part_release_first(const struct shellwaltz_part *part, uint32_t number, uint32_t most)
+{
+    struct shellwaltz_result r = {0, 0, 0, 0, 0};
+    r.answer = shellwaltz_release_first(part->blocks, part->sectors, part->logical, part->image, part->image_words, number, most, &r.words,
+                                        &r.erasures, &r.bad_block, &r.bad_rule);
     return r;
 }
 

@@ -1,26 +1,30 @@
 /* The short calls of include/shellwaltz.h only pass on: each gives, changes and leaves what the proved function of the same name does; of a part
- * with a lookup table, what the one with a table does. Tried on images that are sound, bad in a block and bad as a whole, with numbers in
- * and out of range, with geometries that are refused, and with no table, a right one, a wrong one and one that is too short. And the
- * sentences for logs: each number has one of its own, and every other number the same one. */
+ * with a lookup table, a read, a write or a release what the one with a table does. Tried on images that are sound, bad in a block and bad as
+ * a whole, with numbers in and out of range, with steps from the first to the greatest number, with geometries that are refused, and with no
+ * table, a right one, a wrong one and one that is too short. And the sentences for logs: each number has one of its own, and every other
+ * number the same one. */
 #include <stdio.h>
 #include <stdlib.h>
 #include <string.h>
 
 #include "../include/shellwaltz.h"
 
-enum { BLOCKS = 3, SECTORS = 3, LOGICAL = 3, WORDS = BLOCKS * SECTORS * 128, NUMBERS = 5, IMAGES = 4, CALLS = 7, SHAPES = 3 };
+enum { BLOCKS = 3, SECTORS = 3, LOGICAL = 3, WORDS = BLOCKS * SECTORS * 128, NUMBERS = 5, IMAGES = 5, CALLS = 11, SHAPES = 3 };
 enum { NO_TABLE, RIGHT, WRONG, TOO_SHORT, TABLES };
+enum { FIRST_BY_STEPS = 7, STEPS = 6 };
+static const uint32_t steps[STEPS] = {0, 1, 2, 100, 133, 0xFFFFFFFFu};
 
-/* What a call leaves: its image, its buffer, its table and the word behind it, and what it gives, in the order of struct shellwaltz_totals or
- * of struct shellwaltz_result. */
+/* What a call leaves: its image, its buffer, its table and the word behind it, and what it gives, in the order of struct shellwaltz_totals, of
+ * struct shellwaltz_result or of struct shellwaltz_step. */
 struct left {
     uint32_t image[WORDS], buffer[SHELLWALTZ_SECTOR_WORDS], given[7];
     uint16_t table[LOGICAL + 1];
 };
 
-static unsigned compared, answers_seen[7];
+static unsigned compared, answers_seen[7], kinds_seen[3];
 
-/* Sound and fresh; block 1 at fault; no block blank; and sound with number 2 stored twice and a count, so that no total is 0. */
+/* Sound and fresh; block 1 at fault; no block blank; sound with number 2 stored twice and a count, so that no total is 0; and with it stored
+ * four times, so that the next write erases. */
 static void make_image(int which, uint32_t *image)
 {
     uint32_t words, erasures, block, rule, sector[SHELLWALTZ_SECTOR_WORDS] = {1, 2, 3};
@@ -31,7 +35,7 @@ static void make_image(int which, uint32_t *image)
         image[b * SECTORS * 128 + 3] = 0xFFFFFFFEu;
         image[b * SECTORS * 128 + 4] = 0;
     }
-    for (int time = 0; which == 3 && time < 2; time++) {
+    for (int time = 0; (which == 3 && time < 2) || (which == 4 && time < 4); time++) {
         shellwaltz_write(BLOCKS, SECTORS, LOGICAL, image, WORDS, 2, sector, SHELLWALTZ_SECTOR_WORDS, &words, &erasures, &block, &rule);
         image[2 * SECTORS * 128] = 7;
     }
@@ -70,10 +74,28 @@ static void proved_with_table(int call, struct shellwaltz_part p, uint32_t n, st
     }
 }
 
-static void by_the_short_call(int call, struct shellwaltz_part p, uint32_t n, struct left *l)
+/* A place is below 2^32 here. */
+static void proved_by_steps(int call, struct shellwaltz_part p, uint32_t n, uint32_t i, struct left *l)
+{
+    uint32_t *g = l->given, *b = l->buffer, words = SHELLWALTZ_SECTOR_WORDS;
+    size_t place = 0;
+    switch (call) {
+    case 7:
+        g[0] = shellwaltz_write_step(p.blocks, p.sectors, p.logical, p.image, p.image_words, n, b, words, i, g + 1, &place, g + 3, g + 4, g + 5);
+        break;
+    case 8: g[0] = shellwaltz_release_step(p.blocks, p.sectors, p.logical, p.image, p.image_words, n, i, g + 1, &place, g + 3, g + 4, g + 5); break;
+    case 9: g[0] = shellwaltz_write_first(p.blocks, p.sectors, p.logical, p.image, p.image_words, n, b, words, i, g + 1, g + 2, g + 3, g + 4); return;
+    default: g[0] = shellwaltz_release_first(p.blocks, p.sectors, p.logical, p.image, p.image_words, n, i, g + 1, g + 2, g + 3, g + 4); return;
+    }
+    g[2] = (uint32_t)place;
+    kinds_seen[g[1]]++;
+}
+
+static void by_the_short_call(int call, struct shellwaltz_part p, uint32_t n, uint32_t i, struct left *l)
 {
     struct shellwaltz_result r = {0, 0, 0, 0, 0};
     struct shellwaltz_totals t = {0, 0, 0, 0, 0, 0, 0};
+    struct shellwaltz_step s = {0, 0, 0, 0, 0, 0};
     switch (call) {
     case 0: r = shellwaltz_part_format(&p); break;
     case 1: r = shellwaltz_part_check(&p); break;
@@ -81,11 +103,16 @@ static void by_the_short_call(int call, struct shellwaltz_part p, uint32_t n, st
     case 3: r = shellwaltz_part_read(&p, n, l->buffer); break;
     case 4: r = shellwaltz_part_write(&p, n, l->buffer); break;
     case 5: r = shellwaltz_part_release(&p, n); break;
-    default: r = shellwaltz_part_build_table(&p); break;
+    case 6: r = shellwaltz_part_build_table(&p); break;
+    case 7: s = shellwaltz_part_write_step(&p, n, l->buffer, i); break;
+    case 8: s = shellwaltz_part_release_step(&p, n, i); break;
+    case 9: r = shellwaltz_part_write_first(&p, n, l->buffer, i); break;
+    default: r = shellwaltz_part_release_first(&p, n, i); break;
     }
     uint32_t result[7] = {r.answer, r.words, r.erasures, r.bad_block, r.bad_rule};
     uint32_t totals[7] = {t.answer, t.mapped, t.free_slots, t.dead, t.erase_sum, t.bad_block, t.bad_rule};
-    memcpy(l->given, call == 2 ? totals : result, sizeof l->given);
+    uint32_t step[7] = {s.answer, s.kind, (uint32_t)s.place, s.word, s.bad_block, s.bad_rule};
+    memcpy(l->given, call == 2 ? totals : call == 7 || call == 8 ? step : result, sizeof l->given);
 }
 
 /* The part that `l` has the image of, with the table that is asked for. */
@@ -106,7 +133,7 @@ static struct shellwaltz_part make_part(int shape, int tabled, struct left *l)
     return p;
 }
 
-static void compare(int call, int which, int shape, int tabled, uint32_t n)
+static void compare(int call, int which, int shape, int tabled, uint32_t n, uint32_t i)
 {
     static struct left ours, theirs;
     memset(&ours, 0, sizeof ours);
@@ -116,14 +143,17 @@ static void compare(int call, int which, int shape, int tabled, uint32_t n)
         ours.table[i] = 1;
     struct shellwaltz_part p = make_part(shape, tabled, &ours);
     theirs = ours;
-    by_the_short_call(call, p, n, &ours);
+    by_the_short_call(call, p, n, i, &ours);
     p.image = theirs.image;
-    if (call == 6 || (call >= 3 && tabled != NO_TABLE))
+    if (call >= FIRST_BY_STEPS)
+        proved_by_steps(call, p, n, i, &theirs);
+    else if (call == 6 || (call >= 3 && tabled != NO_TABLE))
         proved_with_table(call, p, n, &theirs);
     else
         proved(call, p, n, &theirs);
     if (memcmp(&ours, &theirs, sizeof ours) != 0) {
-        printf("short calls: call %d on image %d, geometry %d, table %d, number %u differs\n", call, which, shape, tabled, (unsigned)n);
+        printf("short calls: call %d on image %d, geometry %d, table %d, number %u, step %u differs\n", call, which, shape, tabled, (unsigned)n,
+               (unsigned)i);
         exit(1);
     }
     if (call == 6 && tabled == NO_TABLE && ours.given[0] != (shape == 0 ? SHELLWALTZ_BAD_BUFFER : SHELLWALTZ_BAD_GEOMETRY)) {
@@ -156,9 +186,14 @@ int main(void)
             for (int shape = 0; shape < SHAPES; shape++)
                 for (int tabled = 0; tabled < TABLES; tabled++)
                     for (uint32_t n = 0; n < NUMBERS; n++)
-                        compare(call, which, shape, tabled, n);
+                        for (int i = 0; i < (call < FIRST_BY_STEPS ? 1 : STEPS); i++)
+                            compare(call, which, shape, tabled, n, steps[i]);
     if (!answers_seen[0] || !answers_seen[1] || !answers_seen[2] || !answers_seen[3] || !answers_seen[4] || !answers_seen[5]) {
         printf("short calls: an answer never came about\n");
+        return 1;
+    }
+    if (!kinds_seen[SHELLWALTZ_DONE] || !kinds_seen[SHELLWALTZ_PROGRAM] || !kinds_seen[SHELLWALTZ_ERASE]) {
+        printf("short calls: a kind of step never came about\n");
         return 1;
     }
     sentences(shellwaltz_meaning, 6);

@@ -77,6 +77,24 @@ ones-bit (suc m) (suc j) l =
     let half : (2 ^ suc m - 1) / 2 ≡ 2 ^ m - 1 = omega (arith, pow-suc 2 m, pow-pos m) in
     bit-suc (2 ^ suc m - 1) j ∙ ap (λ (x : ℕ). bit x j) half ∙ ones-bit m j (omega arith)
 
+-- 2 ^ m − 2 ^ l: its half, and that its bits below place l are clear, and from there on set
+upper-half : (m l : ℕ) → (2 ^ suc m - 2 ^ suc l) / 2 ≡ 2 ^ m - 2 ^ l
+upper-half m l = omega (arith, pow-suc 2 m, pow-suc 2 l)
+
+pub upper-clear : (m l j : ℕ) → l ≤ m → j < l → bit (2 ^ m - 2 ^ l) j ≡ 0
+upper-clear m zero j h k = absurd (omega arith)
+upper-clear zero (suc l) j h k = absurd (omega arith)
+upper-clear (suc m) (suc l) zero h k = bit-zero (2 ^ suc m - 2 ^ suc l) ∙ omega (arith, pow-suc 2 m, pow-suc 2 l)
+upper-clear (suc m) (suc l) (suc j) h k =
+    bit-suc (2 ^ suc m - 2 ^ suc l) j ∙ ap (λ (x : ℕ). bit x j) (upper-half m l) ∙ upper-clear m l j (omega arith) (omega arith)
+
+pub upper-set : (m l j : ℕ) → l ≤ j → j < m → bit (2 ^ m - 2 ^ l) j ≡ 1
+upper-set m zero j h k = ones-bit m j k
+upper-set zero (suc l) j h k = absurd (omega arith)
+upper-set (suc m) (suc l) zero h k = absurd (omega arith)
+upper-set (suc m) (suc l) (suc j) h k =
+    bit-suc (2 ^ suc m - 2 ^ suc l) j ∙ ap (λ (x : ℕ). bit x j) (upper-half m l) ∙ upper-set m l j (omega arith) (omega arith)
+
 -- numbers below 2 ^ m with the same m bits are equal
 pub bits-same : (m a b : ℕ) → a < 2 ^ m → b < 2 ^ m → ((j : ℕ) → j < m → bit a j ≡ bit b j) → a ≡ b
 bits-same zero a b l k h = omega arith

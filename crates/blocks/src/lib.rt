@@ -45,7 +45,7 @@ pub fn free_slots(image: &[u32], geo: Geometry, b: usize) -> usize
 }
 
 // The live slots of block b, by its entries: whether an entry is live, the map bit does not say. A block has a slot at least, so the loop asks last.
-fn live_slots(image: &[u32], geo: Geometry, b: usize) -> u32
+pub fn live_slots(image: &[u32], geo: Geometry, b: usize) -> u32
     requires { ⌜ Shaped geo (now image) ⌝ }
     requires { ⌜ NoneSuperseded geo (now image) ⌝ }
     requires { ⌜ b < geo .blocks ⌝ }

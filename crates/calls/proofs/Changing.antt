@@ -1,65 +1,62 @@
--- What a write and a release report and leave, by their answer: laws that the proofs of the two calls share. Assumes nothing.
-use mathlib.Core.Path.{_≡_, sym, ap, _∙_}
-use mathlib.Core.Bool.{true}
+-- What the first steps of a write and of a release report and leave, by their answer: laws that the proofs of the two calls share. Assumes nothing.
+use mathlib.Core.Path.{_≡_, sym, ap, ap₂, _∙_}
 use mathlib.Core.List.{List, []}
 use mathlib.Core.Logic.{_≢_}
-use Prim.Native.Nat.{ℕ, _<_}
+use Prim.Native.Nat.{ℕ, _-_, _<_}
 use native.Mathlib.Omega.{arith}
+use lib.ListN.{length, length-take}
 use Rattle.geometry.specs.declared.Geometry.{Geometry}
 use Rattle.image.specs.Words.{Image}
 use Rattle.tables.specs.Tables.{Table}
-use Rattle.flash.specs.Steps.{Step, run, wordsIn, erasuresIn}
+use Rattle.flash.specs.declared.Step.{Step}
+use Rattle.flash.specs.Steps.{run, wordsIn, erasuresIn, firstOf}
 use Rattle.flash.proofs.Stores.{run-none}
+use Rattle.flash.proofs.Parts.{Carried, steps-counted}
 use Rattle.answers.specs.declared.Answer.{Answer}
 use Rattle.answers.specs.declared.Answer.the-variants.{Accepted}
 use Rattle.answers.specs.Answers.{numberOf, ifAccepted}
 use Rattle.answers.proofs.Acceptance.{if-accepted, if-refused}
 use Rattle.calls.specs.declared.Outcome.{Outcome}
-use Rattle.calls.specs.Refusals.{Row, firstThatApplies}
 use Rattle.calls.specs.Calls.{outcome, accepting}
-use Rattle.calls.proofs.Rows.{numbered, FirstIs, first-is, first-number}
 
--- a call whose steps are these where it is accepted, and none where it is refused; likewise with what it notes in a table
-module _ (geo : Geometry) (image : Image) (answer : Answer) (steps : List Step) (noted table : Table) where
+-- how many of the first steps program a word
+pub first-words : (most : ℕ) (xs : List Step) {left : ℕ} → left ≡ most - length xs → most - left - erasuresIn (firstOf most xs) ≡ wordsIn (firstOf most xs)
+first-words most xs e = omega (arith, steps-counted (firstOf most xs), length-take most xs)
+
+-- an answer whose number is not 0 is a refusal
+pub by-number : {answer a : Answer} → answer ≡ a → 0 < numberOf a → answer ≢ Accepted
+by-number e n p = omega (arith, ap numberOf (sym e ∙ p))
+
+-- A refused call, whose steps would be these, and what it would note in a table: none of the steps is done, and no part of them.
+pub left-alone :
+    (geo : Geometry) (image : Image) (answer : Answer) (steps : List Step) (noted table : Table) (part : List Step → List Step) →
+    part [] ≡ [] →
+    {a : Answer} {r : Outcome} →
+    answer ≡ a →
+    answer ≢ Accepted →
+    r ≡ outcome a [] →
+    let done = part (ifAccepted answer steps []) in
+    (r ≡ outcome answer done) × ((image ≡ run geo image done) × (table ≡ ifAccepted answer noted table))
+left-alone geo image answer steps noted table part empty e n q =
+    let none : part (ifAccepted answer steps []) ≡ [] = ap part (if-refused answer steps [] n) ∙ empty in (
+      q ∙ ap₂ outcome (sym e) (sym none),
+      (sym (ap (run geo image) none ∙ run-none geo image), sym (if-refused answer noted table n)),
+    )
+
+-- An accepted one: the first `most` of its steps are.
+module _ (geo : Geometry) (image : Image) (answer : Answer) (steps : List Step) (most : ℕ) where
   abbrev done : List Step
-  done = ifAccepted answer steps []
-
-  abbrev left : Table
-  left = ifAccepted answer noted table
-
-  pub left-alone :
-      {a : Answer} {r : Outcome} →
-      answer ≡ a →
-      0 < numberOf a →
-      r ≡ outcome a [] →
-      (r ≡ outcome answer done) × ((image ≡ run geo image done) × (table ≡ left))
-  left-alone e n q =
-      let refused : answer ≢ Accepted = λ p. omega (arith, ap numberOf (sym e ∙ p)) in
-      let none = if-refused answer steps [] refused in (
-        q ∙ ap (λ (x : Answer). outcome x []) (sym e) ∙ ap (outcome answer) (sym none),
-        (sym (ap (run geo image) none ∙ run-none geo image), sym (if-refused answer noted table refused)),
-      )
+  done = firstOf most (ifAccepted answer steps [])
 
   pub carried-out :
-      {words erasures : ℕ} {r : Outcome} {after : Image} {table' : Table} →
+      {words erasures left : ℕ} {r : Outcome} {after : Image} →
       r ≡ accepting words erasures →
       answer ≡ Accepted →
-      words ≡ wordsIn steps →
-      erasures ≡ erasuresIn steps →
-      after ≡ run geo image steps →
-      table' ≡ noted →
-      (r ≡ outcome answer done) × ((after ≡ run geo image done) × (table' ≡ left))
-  carried-out reported e p q image-is t =
-      let all = if-accepted steps [] e in
-      (reported ∙ rw (all, p, q, e), (image-is ∙ ap (run geo image) (sym all), t ∙ sym (if-accepted noted table e)))
-
--- a call that gives the refusal of the first row that applies
-pub refused-by :
-    (geo : Geometry) (image : Image) (rows : List Row) (steps : List Step) (noted table : Table) {a : Answer} {r : Outcome} →
-    numbered rows ≡ true →
-    FirstIs rows a →
-    r ≡ outcome a [] →
-    (r ≡ outcome (firstThatApplies rows) (ifAccepted (firstThatApplies rows) steps []))
-    × ((image ≡ run geo image (ifAccepted (firstThatApplies rows) steps [])) × (table ≡ ifAccepted (firstThatApplies rows) noted table))
-refused-by geo image rows steps noted table up f =
-    left-alone geo image (firstThatApplies rows) steps noted table (first-is f) (first-number f up)
+      Carried geo image most steps left after →
+      erasures ≡ erasuresIn (firstOf most steps) →
+      words ≡ most - left - erasures →
+      (r ≡ outcome answer done) × (after ≡ run geo image done)
+  carried-out {words} {erasures} reported e carried erased counted =
+      let all : done ≡ firstOf most steps = ap (firstOf most) (if-accepted steps [] e) in
+      let programmed : words ≡ wordsIn (firstOf most steps) = omega (arith, counted, erased, first-words most steps (carried .0)) in
+      (reported ∙ rw (all, programmed, erased, e), carried .1 ∙ ap (run geo image) (sym all))

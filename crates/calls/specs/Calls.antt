@@ -13,7 +13,8 @@ use Rattle.image.specs.Words.{Image, eraseCount, contents}
 use Rattle.image.specs.Slots.{find}
 use Rattle.image.specs.Blocks.{freeSlots, liveSlots, deadSlots}
 use Rattle.tables.specs.Tables.{Table}
-use Rattle.flash.specs.Steps.{Step, run, wordsIn, erasuresIn}
+use Rattle.flash.specs.declared.Step.{Step}
+use Rattle.flash.specs.Steps.{run, wordsIn, erasuresIn, firstOf}
 use Rattle.flash.specs.Placing.{releasing}
 use Rattle.flash.specs.Writing.{writing}
 use Rattle.flash.specs.Tables.{tableWritten, tableReleased}
@@ -106,6 +107,19 @@ module _ (geo : Geometry) (image : Image) where
 
   abbrev pub released : ℕ → Image
   released n = run geo image (releaseSteps geo image n)
+
+  -- K4: the first j steps of each: what is reported of those, and the image that they leave
+  abbrev pub writeFirstOutcome : ℕ → List ℕ → ℕ → Outcome
+  writeFirstOutcome n buffer j = outcome (writeAnswer geo image n buffer) (firstOf j (writeSteps geo image n buffer))
+
+  abbrev pub writtenFirst : ℕ → List ℕ → ℕ → Image
+  writtenFirst n buffer j = run geo image (firstOf j (writeSteps geo image n buffer))
+
+  abbrev pub releaseFirstOutcome : ℕ → ℕ → Outcome
+  releaseFirstOutcome n j = outcome (releaseAnswer geo image n) (firstOf j (releaseSteps geo image n))
+
+  abbrev pub releasedFirst : ℕ → ℕ → Image
+  releasedFirst n j = run geo image (firstOf j (releaseSteps geo image n))
 
   -- K2: the table that a write and a release leave, whatever its length: where they are refused it is as it was
   abbrev pub tableAfterWriting : Answer → ℕ → Table → Table

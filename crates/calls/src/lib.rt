@@ -3,8 +3,11 @@
 // table of refusals (docs/FORMAT.md, Refusals), in the table's order, with 2 for the buffer alone, and then does its work.
 ghost use mathlib.Core.List.{[]};
 ghost use mathlib.Core.Path.{_≡_};
+ghost use Prim.Native.Nat.{_<_};
+ghost use lib.ListN.{length};
 ghost use Rattle.calls.specs.Refusals.{readAnswer, writeAnswer, releaseAnswer};
-ghost use Rattle.calls.specs.Calls.{readBuffer, outcome, accepting, writeOutcome, written, tableAfterWriting, releaseOutcome, released, tableAfterReleasing};
+ghost use Rattle.calls.specs.Courses.{writeCourse, releaseCourse};
+ghost use Rattle.calls.specs.Calls.{readBuffer, outcome, accepting, writeSteps, writeOutcome, written, writeFirstOutcome, writtenFirst, tableAfterWriting, releaseOutcome, released, releaseFirstOutcome, releasedFirst, tableAfterReleasing};
 use answers::Answer;
 use flash::Plan;
 use geometry::Geometry;
@@ -24,6 +27,19 @@ pub struct Totals {
     pub free: u32,
     pub dead: u32,
     pub erase_sum: u32,
+}
+
+// The course of a write, refusals told: refused with this answer; or by rule 1 or 2; or by rule 3 with this victim.
+pub enum WriteCourse {
+    Refused(Answer),
+    Fill,
+    Reclaim(usize),
+}
+
+// The course of a release: refused with this answer; or the entry at this place is made invalid.
+pub enum ReleaseCourse {
+    Refused(Answer),
+    Invalidate(Found),
 }
 
 // A read, with n looked up by a table of any length.
@@ -75,7 +91,97 @@ fn accepted(words: u32, erasures: u32) -> Outcome
     }
 }
 
-// A write, with n looked up by a table of any length, which is kept up.
+// The course of a write of n: its rows of the table of refusals are tested, in the table's order.
+pub fn write_course(image: &[u32], geo: Geometry, n: u32, buffer: &[u32]) -> WriteCourse
+    ensures { λ r. ⌜ r ≡ writeCourse geo (now (image .entry)) n (now (buffer .entry)) ⌝ }
+{
+    if !image::slots::fits(image, geo) {
+        return WriteCourse::Refused(Answer::BadGeometry);
+    }
+    if 128 != buffer.len() {
+        return WriteCourse::Refused(Answer::BadBuffer);
+    }
+    if n >= geo.logical {
+        return WriteCourse::Refused(Answer::BadNumber);
+    }
+    let fault = checking::first_fault(image, geo);
+    if fault.rule != 0 {
+        return WriteCourse::Refused(Answer::Malformed(fault.block, fault.rule));
+    }
+    match writing::filling::plan(image, geo) {
+        Plan::Worn => WriteCourse::Refused(Answer::WornOut),
+        Plan::Fill => WriteCourse::Fill,
+        Plan::Reclaim(v) => WriteCourse::Reclaim(v),
+    }
+}
+
+// The course of a release of n likewise, with n looked up by a table of any length.
+pub fn release_course(image: &[u32], geo: Geometry, n: u32, table: &[u16]) -> ReleaseCourse
+    ensures { λ r. ⌜ r ≡ releaseCourse geo (now (image .entry)) n ⌝ }
+{
+    if !image::slots::fits(image, geo) {
+        return ReleaseCourse::Refused(Answer::BadGeometry);
+    }
+    if n >= geo.logical {
+        return ReleaseCourse::Refused(Answer::BadNumber);
+    }
+    let fault = checking::first_fault(image, geo);
+    if fault.rule != 0 {
+        return ReleaseCourse::Refused(Answer::Malformed(fault.block, fault.rule));
+    }
+    match tables::look_up(image, geo, n, table) {
+        Found::At(b, i) => ReleaseCourse::Invalidate(Found::At(b, i)),
+        Found::Nothing => ReleaseCourse::Refused(Answer::Unmapped),
+    }
+}
+
+// The first steps of a write of this course, at most so many (K4). The table is kept up where more may be done than there are; else nothing is
+// said of it. (The course is decided before, by the caller, so that the check's stack and that of a reclaim are not taken at the same time.)
+fn write_along(
+    image: &mut [u32],
+    geo: Geometry,
+    n: u32,
+    buffer: &[u32],
+    table: &mut [u16],
+    course: WriteCourse,
+    most: u32,
+) -> Outcome
+    requires { ⌜ course ≡ writeCourse geo (now image) n (now buffer) ⌝ }
+    ensures { λ r. ⌜ r ≡ writeFirstOutcome geo (now (image .entry)) n (now (buffer .entry)) most ⌝ }
+    ensures { λ _. ⌜ now (image .exit) ≡ writtenFirst geo (now (image .entry)) n (now (buffer .entry)) most ⌝ }
+    ensures { λ _. ⌜ (length (writeSteps geo (now (image .entry)) n (now (buffer .entry))) < most → now (table .exit) ≡ tableAfterWriting geo (now (image .entry)) (writeAnswer geo (now (image .entry)) n (now (buffer .entry))) n (now (table .entry))) ⌝ }
+{
+    match course {
+        WriteCourse::Refused(answer) => refused(answer),
+        WriteCourse::Fill => {
+            let left = writing::filling::fill(image, geo, n, buffer, table, most);
+            accepted(most - left, 0)
+        }
+        WriteCourse::Reclaim(v) => {
+            let done = writing::filling::reclaim_and_fill(image, geo, v, n, buffer, table, most);
+            accepted(most - done.left - done.erasures, done.erasures)
+        }
+    }
+}
+
+// The first steps of a write, with n looked up by a table of any length.
+pub fn write_within(
+    image: &mut [u32],
+    geo: Geometry,
+    n: u32,
+    buffer: &[u32],
+    table: &mut [u16],
+    most: u32,
+) -> Outcome
+    ensures { λ r. ⌜ r ≡ writeFirstOutcome geo (now (image .entry)) n (now (buffer .entry)) most ⌝ }
+    ensures { λ _. ⌜ now (image .exit) ≡ writtenFirst geo (now (image .entry)) n (now (buffer .entry)) most ⌝ }
+    ensures { λ _. ⌜ (length (writeSteps geo (now (image .entry)) n (now (buffer .entry))) < most → now (table .exit) ≡ tableAfterWriting geo (now (image .entry)) (writeAnswer geo (now (image .entry)) n (now (buffer .entry))) n (now (table .entry))) ⌝ }
+{
+    let course = write_course(image, geo, n, buffer);
+    write_along(image, geo, n, buffer, table, course, most)
+}
+
+// A write, with n looked up by a table of any length, which is kept up: no write has 4,294,967,295 steps.
 pub fn write_by(
     image: &mut [u32],
     geo: Geometry,
@@ -87,28 +193,28 @@ pub fn write_by(
     ensures { λ r. ⌜ now (image .exit) ≡ written geo (now (image .entry)) n (now (buffer .entry)) ⌝ }
     ensures { λ r. ⌜ now (table .exit) ≡ tableAfterWriting geo (now (image .entry)) (writeAnswer geo (now (image .entry)) n (now (buffer .entry))) n (now (table .entry)) ⌝ }
 {
-    if !image::slots::fits(image, geo) {
-        return refused(Answer::BadGeometry);
-    }
-    if 128 != buffer.len() {
-        return refused(Answer::BadBuffer);
-    }
-    if n >= geo.logical {
-        return refused(Answer::BadNumber);
-    }
-    let fault = checking::first_fault(image, geo);
-    if fault.rule != 0 {
-        return refused(Answer::Malformed(fault.block, fault.rule));
-    }
-    match writing::filling::plan(image, geo) {
-        Plan::Worn => refused(Answer::WornOut),
-        Plan::Fill => {
-            let words = writing::filling::fill(image, geo, n, buffer, table);
-            accepted(words, 0)
-        }
-        Plan::Reclaim(v) => {
-            let words = writing::filling::reclaim_and_fill(image, geo, v, n, buffer, table);
-            accepted(words, 1)
+    let course = write_course(image, geo, n, buffer);
+    write_along(image, geo, n, buffer, table, course, 0xFFFF_FFFF)
+}
+
+// The first steps of a release, at most so many. The table is kept up as if all were done.
+pub fn release_within(
+    image: &mut [u32],
+    geo: Geometry,
+    n: u32,
+    table: &mut [u16],
+    most: u32,
+) -> Outcome
+    ensures { λ r. ⌜ r ≡ releaseFirstOutcome geo (now (image .entry)) n most ⌝ }
+    ensures { λ _. ⌜ now (image .exit) ≡ releasedFirst geo (now (image .entry)) n most ⌝ }
+    ensures { λ _. ⌜ now (table .exit) ≡ tableAfterReleasing geo (now (image .entry)) (releaseAnswer geo (now (image .entry)) n) n (now (table .entry)) ⌝ }
+{
+    match release_course(image, geo, n, table) {
+        ReleaseCourse::Refused(answer) => refused(answer),
+        ReleaseCourse::Invalidate(live) => {
+            let left = placing::release(image, geo, live, most);
+            tables::note(table, n, 0xFFFF);
+            accepted(most - left, 0)
         }
     }
 }
@@ -119,20 +225,5 @@ pub fn release_by(image: &mut [u32], geo: Geometry, n: u32, table: &mut [u16]) -
     ensures { λ r. ⌜ now (image .exit) ≡ released geo (now (image .entry)) n ⌝ }
     ensures { λ r. ⌜ now (table .exit) ≡ tableAfterReleasing geo (now (image .entry)) (releaseAnswer geo (now (image .entry)) n) n (now (table .entry)) ⌝ }
 {
-    if !image::slots::fits(image, geo) {
-        return refused(Answer::BadGeometry);
-    }
-    if n >= geo.logical {
-        return refused(Answer::BadNumber);
-    }
-    let fault = checking::first_fault(image, geo);
-    if fault.rule != 0 {
-        return refused(Answer::Malformed(fault.block, fault.rule));
-    }
-    let words = placing::release(image, geo, n, table);
-    if words == 0 {
-        return refused(Answer::Unmapped);
-    }
-    tables::note(table, n, 0xFFFF);
-    accepted(words, 0)
+    release_within(image, geo, n, table, 0xFFFF_FFFF)
 }

@@ -24,7 +24,7 @@ pub record Place : Type 1 where
   pub Value : Type 0
   pub coded : Coded Value
 
--- nothing, where it is no `&mut`; a number, where it is a `&mut u32`; a list of numbers, where it is a `&mut [u32]`
+-- nothing, where it is no `&mut`; a number, where it is a `&mut u32` or a `&mut usize`; a list of numbers, where it is a `&mut [u32]`
 abbrev pub kept : Place
 kept = record { Value = Unit {0}; coded = codedUnit }
 

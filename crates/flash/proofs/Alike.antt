@@ -16,7 +16,9 @@ use Rattle.image.specs.declared.Found.the-variants.{At, Nothing}
 use Rattle.image.specs.Words.{Image, Words32, word}
 use Rattle.image.specs.Slots.{find}
 use Rattle.image.specs.Blocks.{victim}
-use Rattle.flash.specs.Steps.{Step, Program, applied, run, erasuresIn}
+use Rattle.flash.specs.declared.Step.{Step}
+use Rattle.flash.specs.declared.Step.the-variants.{Program}
+use Rattle.flash.specs.Steps.{applied, run, erasuresIn}
 use Rattle.flash.specs.Placing.{takesSlot, outdates, storesContents, closesBlock, fillsSlot, placing}
 use Rattle.flash.specs.Writing.{nextSlot, placingAt, filling, mustReclaim, reclaiming, reclaimingFirst, writing}
 use Rattle.flash.proofs.Stores.{run-append, erasures-append}

@@ -16,7 +16,9 @@ use Rattle.bits.proofs.Programming.{programmed-never-sets}
 use Rattle.geometry.specs.declared.Geometry.{Geometry}
 use Rattle.geometry.specs.Geometry.{blockLength}
 use Rattle.image.specs.Words.{Image, word}
-use Rattle.flash.specs.Steps.{Step, Program, Erase, programmedAt, erasedBlock, applied, run, erasuresIn, erasesBlock}
+use Rattle.flash.specs.declared.Step.{Step}
+use Rattle.flash.specs.declared.Step.the-variants.{Program, Erase}
+use Rattle.flash.specs.Steps.{programmedAt, erasedBlock, applied, run, erasuresIn, erasesBlock}
 use Rattle.flash.proofs.Erased.{erased-at-least, erased-elsewhere}
 
 -- one word programmed: it and every other word have only bits that they had

@@ -1,8 +1,10 @@
 -- What the code of this crate does, as steps: laws that several functions share. Assumes nothing.
-use mathlib.Core.List.{List, [], _∷_, _++_}
+use mathlib.Core.List.{[], _∷_}
 use mathlib.Core.Path.{_≡_, sym, ap, _∙_}
-use Prim.Native.Nat.{ℕ, _<_}
+use Prim.Native.Nat.{ℕ, _-_, _<_}
+use native.Mathlib.Omega.{arith}
 use lib.ListN.{length}
+use lib.Seq.{take-nil}
 use Rattle.geometry.specs.declared.Geometry.{Geometry}
 use Rattle.geometry.specs.Places.{place, entryWord}
 use Rattle.image.specs.declared.Found.{Found}
@@ -11,9 +13,11 @@ use Rattle.image.specs.Words.{Image, Shaped}
 use Rattle.image.specs.Slots.{find}
 use Rattle.image.proofs.Finding.{found-live}
 use Rattle.image.proofs.Reading.{entry-inside}
-use Rattle.flash.specs.Steps.{Step, Program, programmedAt, applied, run}
+use Rattle.flash.specs.declared.Step.the-variants.{Program}
+use Rattle.flash.specs.Steps.{programmedAt, applied, run, firstOf}
 use Rattle.flash.specs.Placing.{InImage}
-use Rattle.flash.proofs.Stores.{run-append}
+use Rattle.flash.proofs.Stores.{run-none}
+use Rattle.flash.proofs.Parts.{Carried}
 
 module _ (geo : Geometry) where
   -- an image keeps its shape as long as it keeps its length
@@ -40,7 +44,15 @@ module _ (geo : Geometry) where
   unfolding run applied
   run-program image e p w = e ∙ rw (p, w)
 
-  -- steps after steps: the image after the first is known by an equation
-  pub run-then :
-      (image : Image) {now after : Image} (xs ys : List Step) → now ≡ run geo image xs → after ≡ run geo now ys → after ≡ run geo image (xs ++ ys)
-  run-then image xs ys e f = f ∙ ap (λ (i : Image). run geo i ys) e ∙ sym (run-append geo image xs ys)
+  -- one word programmed as a step of those that are left, likewise
+  pub program-carried :
+      (image : Image) (left : ℕ) {after : Image} {rest p q w v : ℕ} →
+      (rest ≡ left - 1) × ((any : Geometry) → after ≡ run any image (firstOf left (Program p w ∷ []))) →
+      p ≡ q →
+      w ≡ v →
+      Carried geo image left (Program q v ∷ []) rest after
+  program-carried image left done p w = rw (← p, ← w) (done .0, done .1 geo)
+
+  -- no step
+  pub nothing-carried : (image : Image) (left : ℕ) → Carried geo image left [] left image
+  nothing-carried image left = (omega arith, sym (ap (run geo image) (take-nil left) ∙ run-none geo image))

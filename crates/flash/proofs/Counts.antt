@@ -16,7 +16,8 @@ use Rattle.image.specs.declared.Found.the-variants.{At, Nothing}
 use Rattle.image.specs.Words.{Image}
 use Rattle.image.specs.Slots.{validBit, isAt, find, isMapped}
 use Rattle.image.specs.Blocks.{full, lowestFree, lowestOpen, leastWornBlank}
-use Rattle.flash.specs.Steps.{Step, run, wordsIn, erasuresIn}
+use Rattle.flash.specs.declared.Step.{Step}
+use Rattle.flash.specs.Steps.{run, wordsIn, erasuresIn}
 use Rattle.flash.specs.Placing.{entryAt, programsEntry, closesBlock, fillsSlot, placing, releasing}
 use Rattle.flash.specs.Writing.{anyOpen, filling}
 use Rattle.flash.proofs.Stores.{Counts, counts-words, counts-erasures, count-append, count-one, count-list}

@@ -29,7 +29,9 @@ use Rattle.image.proofs.Reading.{block-room, word-inside}
 use Rattle.image.proofs.Facts.{Sound}
 use Rattle.image.proofs.Finding.{find-same, map-same}
 use Rattle.image.proofs.Places.{apart, contents-at, contents-are, contents-long}
-use Rattle.flash.specs.Steps.{Step, Program, Erase, erasedBlock, applied, run, leavesAsked}
+use Rattle.flash.specs.declared.Step.{Step}
+use Rattle.flash.specs.declared.Step.the-variants.{Program, Erase}
+use Rattle.flash.specs.Steps.{erasedBlock, applied, run, leavesAsked}
 use Rattle.flash.proofs.Stores.{Exact, lastAsked, counts-erasures, count-one, last-here, last-other, exact-one, run-words}
 use Rattle.flash.proofs.Filling.{Ready}
 use Rattle.flash.proofs.Changed.{free-not-live}
@@ -199,6 +201,10 @@ module _ (geo : Geometry) (image : Image) (ready : Ready geo image) (v w : ℕ) 
   unfolding eraseCount
   wiped-count-other c n = wiped-outside c eraseWord n (low-in-block geo within (omega arith))
 
+  pub wiped-entry : (c j : ℕ) → c ≢ v → j < d geo → entry geo wiped c j ≡ entry geo image c j
+  unfolding entry
+  wiped-entry c j n l = wiped-outside c (entryWord geo j) n (entry-in-block geo within l)
+
   map-of-v : (j : ℕ) → j < 32 * k geo → mapBit geo wiped v j ≡ true
   unfolding freeMap
   map-of-v j l =
@@ -217,11 +223,9 @@ module _ (geo : Geometry) (image : Image) (ready : Ready geo image) (v w : ℕ) 
       ∙ rw (map-of-v j (omega (arith, map-covers geo within)))
 
   own-of-other : (c j : ℕ) → c < geo .blocks → c ≢ v → j < d geo → ownSlot geo wiped c j ≡ slot geo image c j
-  unfolding ownSlot entry
+  unfolding ownSlot
   own-of-other c j l n h =
-      ap₂ (slotOf (geo .logical))
-      (map-of-other c j n (omega (arith, map-covers geo within)))
-      (wiped-outside c (entryWord geo j) n (entry-in-block geo within h))
+      ap₂ (slotOf (geo .logical)) (map-of-other c j n (omega (arith, map-covers geo within))) (wiped-entry c j n h)
       ∙ sym (each-own (ready .sound .current) l h)
 
   own-was : (c j n : ℕ) → c < geo .blocks → j < d geo → ownSlot geo wiped c j ≡ Live n → slot geo image c j ≡ Live n

@@ -24,7 +24,8 @@ use Rattle.image.proofs.Reading.{word-inside, entry-inside, map-inside}
 use Rattle.image.proofs.Facts.{Sound}
 use Rattle.image.proofs.Finding.{LiveAt, found-live}
 use Rattle.image.proofs.Places.{apart, contents-at}
-use Rattle.flash.specs.Steps.{Step, run}
+use Rattle.flash.specs.declared.Step.{Step}
+use Rattle.flash.specs.Steps.{run}
 use Rattle.flash.specs.Placing.{entryAt, programsEntry, takesSlot, outdates, storesContents, beginsEntry, completesEntry, retires, fillsSlot}
 use Rattle.flash.proofs.Stores.{Exact, lastAsked, run-append, last-here, last-other, last-list-here, last-list-other, exact-none, exact-one, exact-then, exact-list}
 

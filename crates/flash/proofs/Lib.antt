@@ -1,8 +1,10 @@
 pub mod Stores
+pub mod Parts
 pub mod Filling
 pub mod Changed
 pub mod Placed
 pub mod Kept
+pub mod Ahead
 pub mod Counts
 pub mod Erased
 pub mod Clearing
@@ -12,6 +14,8 @@ pub mod Moving
 pub mod Reclaimed
 pub mod Chosen
 pub mod Written
+pub mod Copies
+pub mod LastPlacing
 pub mod Alike
 pub mod Tables
 pub mod Released

@@ -16,7 +16,7 @@ use Rattle.image.specs.declared.Slot.{Slot}
 use Rattle.image.specs.declared.Slot.the-variants.{Free, Live, Dead, Faulty, Superseded}
 use Rattle.image.specs.declared.Found.{Found}
 use Rattle.image.specs.declared.Found.the-variants.{At}
-use Rattle.image.specs.Words.{Image, Words32, eraseCount, contents}
+use Rattle.image.specs.Words.{Image, Words32, eraseCount, entry, contents}
 use Rattle.image.specs.Slots.{slot, isFree, isLive, find, mapOf, isAt}
 use Rattle.image.specs.Blocks.{full}
 use Rattle.image.proofs.Own.{live-number}
@@ -24,17 +24,19 @@ use Rattle.image.proofs.Facts.{Sound, facts-sound}
 use Rattle.image.proofs.Finding.{live-found, map-at}
 use Rattle.image.proofs.Places.{contents-long, contents-words}
 use Rattle.tables.specs.Tables.{Table, rightTable, noted, slotNoted}
-use Rattle.flash.specs.Steps.{Step, run, wordsIn, erasuresIn, leavesAsked}
+use Rattle.flash.specs.declared.Step.{Step}
+use Rattle.flash.specs.Steps.{run, wordsIn, erasuresIn, leavesAsked}
 use Rattle.flash.specs.Placing.{placing}
 use Rattle.flash.specs.Writing.{Copied, copiedSlot, copying, EachInTurn}
+use Rattle.flash.specs.Ahead.{liveBefore}
 use Rattle.flash.specs.Tables.{tableCopied}
 use Rattle.flash.proofs.Stores.{run-append, asked-append, words-append, erasures-append}
 use Rattle.flash.proofs.Counts.{placing-erasures}
 use Rattle.flash.proofs.Unused.{SparesUnused, spares-none, spares-append, placing-spares}
 use Rattle.flash.proofs.Filling.{Ready, Target}
 use Rattle.flash.proofs.Placed.{Placed, Bounds, placing-exact, placing-placed, placing-bounds, placing-cost, placing-shaped, placing-words32}
-use Rattle.flash.proofs.Changed.{not-live, other-place}
-use Rattle.flash.proofs.Kept.{free-as-before, live-before, only-here, placed-sound, placed-right, placed-here, placed-other}
+use Rattle.flash.proofs.Changed.{not-live, free-not-live, same-number, other-place}
+use Rattle.flash.proofs.Kept.{free-as-before, live-before, live-after, only-here, placed-sound, placed-right, placed-here, placed-other}
 
 module _
     (geo : Geometry) (image : Image) (v t : ℕ)
@@ -48,6 +50,10 @@ module _
 
     abbrev so-far : Copied → Image
     so-far st = run geo image (st .steps)
+
+    -- the slot of t that a slot of v goes to
+    pub copy-inside : (j : ℕ) → j < d geo → liveBefore geo image v j < d geo
+    copy-inside j l = omega (arith, sum-prefix {m = j} {n = d geo} (λ i. one-if (lives i)) (omega arith), spare)
 
     -- how the image stands after the first m slots of v, and that the table that was right at the start, with each copied number noted,
     -- is right now
@@ -64,6 +70,14 @@ module _
       pub left-free : (j : ℕ) → st .taken ≤ j → j < d geo → slot geo (so-far st) t j ≡ Free
       pub used : (j : ℕ) → j < st .taken → isFree (slot geo (so-far st) t j) ≡ false
       pub others : (c j : ℕ) → c < geo .blocks → c ≢ v → c ≢ t → j < d geo → slot geo (so-far st) c j ≡ slot geo image c j
+      pub entries : (c j : ℕ) → c < geo .blocks → c ≢ t → j < d geo → (c ≡ v → m ≤ j) → entry geo (so-far st) c j ≡ entry geo image c j
+      pub kept-contents : (j : ℕ) → j < d geo → contents geo (so-far st) v j ≡ contents geo image v j
+      pub copies :
+          (j n : ℕ) →
+          j < m →
+          j < d geo →
+          slot geo image v j ≡ Live n →
+          (slot geo (so-far st) t (liveBefore geo image v j) ≡ Live n) × (entry geo (so-far st) t (liveBefore geo image v j) ≡ 0xC0000000 + n)
       pub map : (n : ℕ) → mapOf geo (so-far st) n ≡ mapOf geo image n
       pub right : table ≡ rightTable geo (so-far st)
 
@@ -83,6 +97,9 @@ module _
           left-free = λ j l h. blank-slots j h;
           used = λ j l. absurd (omega arith);
           others = λ c j l n n' h. refl;
+          entries = λ c j l n h k. refl;
+          kept-contents = λ j l. refl;
+          copies = λ j n l h e. absurd (omega arith);
           map = λ n. refl;
           right = refl;
         }
@@ -106,6 +123,13 @@ module _
           left-free = h .left-free;
           used = h .used;
           others = h .others;
+          entries = λ c j q n r k. h .entries c j q n r (λ e. omega (arith, k e));
+          kept-contents = h .kept-contents;
+          copies = λ j n q r e.
+              ⊎-elim
+              (λ s. absurd (not-live none (h .later m (omega arith) l ∙ ap (slot geo image v) (sym s) ∙ e)))
+              (λ s. h .copies j n s r e)
+              (below-suc q);
           map = h .map;
           right = h .right;
         }
@@ -225,6 +249,38 @@ module _
           ∙ h .used j s)
           (below-suc q)
 
+      -- each copy stands where it was made, and n now behind them
+      copies-after :
+          (j x : ℕ) →
+          j < suc m →
+          j < d geo →
+          slot geo image v j ≡ Live x →
+          (slot geo after t (liveBefore geo image v j) ≡ Live x) × (entry geo after t (liveBefore geo image v j) ≡ 0xC0000000 + x)
+      copies-after j x q r e = ⊎-elim last earlier (below-suc q)
+        where
+          last : j ≡ m → (slot geo after t (liveBefore geo image v j) ≡ Live x) × (entry geo after t (liveBefore geo image v j) ≡ 0xC0000000 + x)
+          last s =
+              let same : n ≡ x = same-number live (h .later m (omega arith) l ∙ ap (slot geo image v) (sym s) ∙ e) in
+              let at : liveBefore geo image v j ≡ st .taken = ap (liveBefore geo image v) s ∙ sym (h .taken) in (
+                ap (slot geo after t) at ∙ p .changed .here ∙ ap Live same,
+                ap (entry geo after t) at ∙ p .entry-here ∙ ap (0xC0000000 +_) same,
+              )
+
+          earlier : j < m → (slot geo after t (liveBefore geo image v j) ≡ Live x) × (entry geo after t (liveBefore geo image v j) ≡ 0xC0000000 + x)
+          earlier s =
+              let was = h .copies j x s r e in
+              let inside = copy-inside j r in
+              let other : x ≢ n = λ y.
+              let twice =
+              start .sound .once x v v j m victim-in victim-in r l e (sym (h .later m (omega arith) l) ∙ live ∙ ap Live (sym y)) in
+              omega (arith, twice .1) in (
+                live-after geo now after n ws t (st .taken) (h .ready) target p x t (liveBefore geo image v j) target-in inside other (was .0) .0,
+                p .entry-other t (liveBefore geo image v j) target-in inside
+                    (λ y z. free-not-live (ap (slot geo now t) z ∙ target .free) (was .0))
+                    (not-here (λ y z. apart (sym y)))
+                    ∙ was .1,
+              )
+
       abbrev next : Copied
       next = record { steps = st .steps ++ more; taken = suc (st .taken) }
 
@@ -253,6 +309,11 @@ module _
             used = λ j q. rw same-image (used-after j q);
             others = λ c j q x y r.
                 rw same-image (p .changed .other c j q r (λ z w. y z) (not-here (λ z w. x z)) ∙ h .others c j q x y r);
+            entries = λ c j q x r y.
+                rw same-image
+                (p .entry-other c j q r (λ z w. x z) (not-here (λ z w. omega (arith, y z))) ∙ h .entries c j q x r (λ z. omega (arith, y z)));
+            kept-contents = λ j q. rw same-image (p .contents-other v j victim-in q (λ x y. apart x) ∙ h .kept-contents j q);
+            copies = λ j x q r e. rw same-image (copies-after j x q r e);
             map = λ x. rw same-image (map-after x ∙ h .map x);
             right = rw (same-image, h .right) (placed-right geo now after n ws t (st .taken) (h .ready) target p bounds);
           }

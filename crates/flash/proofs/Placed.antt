@@ -31,7 +31,9 @@ use Rattle.image.proofs.Own.{none-superseded, each-own}
 use Rattle.image.proofs.Reading.{word-inside}
 use Rattle.image.proofs.Finding.{LiveAt, found-live}
 use Rattle.image.proofs.Places.{apart, contents-at, contents-are, contents-long}
-use Rattle.flash.specs.Steps.{Step, Program, run, wordsIn}
+use Rattle.flash.specs.declared.Step.{Step}
+use Rattle.flash.specs.declared.Step.the-variants.{Program}
+use Rattle.flash.specs.Steps.{run, wordsIn}
 use Rattle.flash.specs.Placing.{leastLive, greatestLive, closesBlock, fillsSlot, placing}
 use Rattle.flash.proofs.Stores.{Exact, lastAsked, run-append, run-none, last-append, last-here, last-other, last-nothing, exact-none, exact-one, exact-then, run-words}
 use Rattle.flash.proofs.Counts.{placing-words, placing-erasures}
@@ -45,6 +47,9 @@ pub record Placed (geo : Geometry) (image after : Image) (n : ℕ) (ws : List �
   pub counts : (c : ℕ) → c < geo .blocks → eraseCount geo after c ≡ eraseCount geo image c
   pub map-here : mapBit geo after b i ≡ false
   pub map-other : (c j : ℕ) → c < geo .blocks → j < 32 * k geo → (c ≡ b → j ≡ i → ⊥) → mapBit geo after c j ≡ mapBit geo image c j
+  pub entry-here : entry geo after b i ≡ 0xC0000000 + n
+  pub entry-other :
+      (c j : ℕ) → c < geo .blocks → j < d geo → (c ≡ b → j ≡ i → ⊥) → (find geo image n ≡ At c j → ⊥) → entry geo after c j ≡ entry geo image c j
   pub current : NoneSuperseded geo after
   pub changed : Changed geo image (slot geo after) n b i
   pub contents-here : contents geo after b i ≡ ws
@@ -177,11 +182,20 @@ module _ (geo : Geometry) (image : Image) (n : ℕ) (ws : List ℕ) (b i : ℕ) 
         ap (λ (w : ℕ). isSet w (i % 32)) (map-word-same i refl)
         ∙ clear-bit _ (i % 32) (cleared-here (freeMap geo image b i) (i % 32))
 
+    entry-here : entry geo after b i ≡ 0xC0000000 + n
+    unfolding entry
+    entry-here = left .entry-word
+
+    entry-other :
+        (c j : ℕ) → c < geo .blocks → j < d geo → (c ≡ b → j ≡ i → ⊥) → (old ≡ At c j → ⊥) → entry geo after c j ≡ entry geo image c j
+    unfolding entry
+    entry-other c j l h n' o = left .elsewhere (entry-away c j h n' o) (not-bound c (entry-in-block geo within h) (omega arith))
+
     -- by their own entries and map bits: n complete in the slot that was taken, the old entry not valid any more, all others as they were
     own-here : ownSlot geo after b i ≡ Live n
-    unfolding ownSlot entry
+    unfolding ownSlot
     own-here =
-        ap (slotOf (geo .logical) (mapBit geo after b i)) (left .entry-word)
+        ap (slotOf (geo .logical) (mapBit geo after b i)) entry-here
         ∙ complete-for (geo .logical) (mapBit geo after b i) n (target .number) (omega (arith, logical-small geo within))
 
     own-old : (c j : ℕ) → old ≡ At c j → ownSlot geo after c j ≡ Dead
@@ -192,11 +206,9 @@ module _ (geo : Geometry) (image : Image) (n : ℕ) (ws : List ℕ) (b i : ℕ) 
         (clear-bit _ validBit (cleared-here (cleared (entry geo image c j) currentBit) validBit))
 
     own-other : (c j : ℕ) → c < geo .blocks → j < d geo → (c ≡ b → j ≡ i → ⊥) → (old ≡ At c j → ⊥) → ownSlot geo after c j ≡ slot geo image c j
-    unfolding ownSlot entry
+    unfolding ownSlot
     own-other c j l h n' o =
-        ap₂ (slotOf (geo .logical))
-        (map-other c j l (slot-in-map h) n')
-        (left .elsewhere (entry-away c j h n' o) (not-bound c (entry-in-block geo within h) (omega arith)))
+        ap₂ (slotOf (geo .logical)) (map-other c j l (slot-in-map h) n') (entry-other c j l h n' o)
         ∙ sym (each-own (ready .sound .current) l h)
 
     own-changed : Changed geo image (ownSlot geo after) n b i
@@ -233,6 +245,8 @@ module _ (geo : Geometry) (image : Image) (n : ℕ) (ws : List ℕ) (b i : ℕ) 
           counts = counts;
           map-here = map-here;
           map-other = map-other;
+          entry-here = entry-here;
+          entry-other = entry-other;
           current = current;
           changed = record { here = here; old-dead = old-dead; other = other };
           contents-here = contents-here;

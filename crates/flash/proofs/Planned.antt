@@ -1,8 +1,9 @@
 -- How a write goes about it, from what the code finds to the definitions. Assumes nothing.
-use mathlib.Core.Path.{_≡_, refl}
+use mathlib.Core.Path.{_≡_, refl, sym, _∙_}
 use mathlib.Core.Bool.{Bool, true, false, cond, _&&_}
 use mathlib.Core.List.{List}
 use Prim.Native.Nat.{ℕ, _<_, _≤_}
+use native.Mathlib.Decide.{decLt}
 use native.Mathlib.Omega.{arith}
 use lib.Dec.{eqb}
 use borrow.Author.Tests.{eq-eqb, ne-eqb, eqb-false}
@@ -11,7 +12,7 @@ use Rattle.ranges.proofs.Tests.{unless, any-of}
 use Rattle.ranges.proofs.Searches.{best-passes, best-any}
 use Rattle.geometry.specs.declared.Geometry.{Geometry}
 use Rattle.geometry.specs.Geometry.{d}
-use Rattle.image.specs.declared.Found.the-variants.{At}
+use Rattle.image.specs.declared.Found.the-variants.{At, Nothing}
 use Rattle.image.specs.declared.Slot.the-variants.{Free}
 use Rattle.image.specs.Words.{Image, eraseCount}
 use Rattle.image.specs.Slots.{slot, isFree}
@@ -20,7 +21,7 @@ use Rattle.image.specs.WellFormed.{ceiling, R6}
 use Rattle.tables.specs.Tables.{Table, noted}
 use Rattle.flash.specs.declared.Plan.the-variants.{Fill, Reclaim, Worn}
 use Rattle.flash.specs.Placing.{placing}
-use Rattle.flash.specs.Writing.{anyOpen, nextSlot, filling, mustReclaim, reclaimingFirst, writing, planned}
+use Rattle.flash.specs.Writing.{openSlot, blankSlot, anyOpen, nextSlot, filling, mustReclaim, reclaimingFirst, writing, planned}
 use Rattle.flash.specs.Tables.{tableFilled, tableReclaimedFirst, tableWritten}
 use Rattle.image.proofs.Facts.{free-is}
 use Rattle.flash.proofs.Chosen.{open-free, blank-slot}
@@ -87,6 +88,32 @@ module _ (geo : Geometry) (image : Image) where
 
   pub next-blank : (b : ℕ) → b ≡ leastWornBlank geo image → geo .blocks ≤ lowestOpen geo image → nextSlot geo image ≡ At b 0
   next-blank b p l = rw (none-open l, ← p)
+
+  -- the slot of the next write is a place, in the image, and free
+  pub next-some : nextSlot geo image ≡ Nothing → ⊥
+  next-some e = go (anyOpen geo image) e
+    where
+      go : (x : Bool) → cond x (openSlot geo image) (blankSlot geo image) ≡ Nothing → ⊥
+      go true e = let z : _≡_ {A = ℕ} 0 1 = cc in omega arith
+      go false e = let z : _≡_ {A = ℕ} 0 1 = cc in omega arith
+
+  pub next-free : R6 geo image ≡ true → 0 < d geo → (b i : ℕ) → nextSlot geo image ≡ At b i → (b < geo .blocks) × (i < d geo) × (slot geo image b i ≡ Free)
+  next-free some within b i e = go (decLt (lowestOpen geo image) (geo .blocks))
+    where
+      moved :
+          {c j : ℕ} →
+          nextSlot geo image ≡ At c j →
+          (c < geo .blocks) × (j < d geo) × (slot geo image c j ≡ Free) →
+          (b < geo .blocks) × (i < d geo) × (slot geo image b i ≡ Free)
+      moved {c} {j} f h =
+          let same = sym e ∙ f in
+          let p : b ≡ c = cc in
+          let q : i ≡ j = cc in
+          rw (p, q) h
+
+      go : Dec (lowestOpen geo image < geo .blocks) → (b < geo .blocks) × (i < d geo) × (slot geo image b i ≡ Free)
+      go (yes l) = moved (next-open _ _ refl refl l) (l, open-slot l, open-slot-free l)
+      go (no l) = moved (next-blank _ refl (omega arith)) (blank-block some, within, blank-slot-free some within)
 
   -- the steps of rules 1 and 2, and the table that they leave, by that slot
   pub filling-next : {b i : ℕ} → nextSlot geo image ≡ At b i → (n : ℕ) (ws : List ℕ) → filling geo image n ws ≡ placing geo image n ws b i

@@ -10,21 +10,23 @@ use borrow.Author.Tests.{eqb-true}
 use Rattle.geometry.specs.declared.Geometry.{Geometry}
 use Rattle.geometry.specs.Geometry.{d}
 use Rattle.image.specs.declared.Slot.the-variants.{Free, Live}
-use Rattle.image.specs.Words.{Image, eraseCount}
+use Rattle.image.specs.Words.{Image, eraseCount, entry}
 use Rattle.image.specs.Slots.{slot, isFree, mapOf}
 use Rattle.image.specs.Blocks.{liveSlots}
 use Rattle.image.specs.WellFormed.{ceiling}
 use Rattle.tables.specs.Tables.{rightTable}
 use Rattle.tables.proofs.Laws.{right-same}
-use Rattle.flash.specs.Steps.{Step, run, wordsIn, erasuresIn, erasesBlock, leavesAsked}
+use Rattle.flash.specs.declared.Step.{Step}
+use Rattle.flash.specs.Steps.{run, wordsIn, erasuresIn, erasesBlock, leavesAsked}
 use Rattle.flash.specs.Writing.{Copied, copying, erasing}
+use Rattle.flash.specs.Ahead.{liveBefore}
 use Rattle.flash.specs.Tables.{tableCopied}
 use Rattle.flash.proofs.Stores.{run-append, asked-append, words-append, erasures-append}
 use Rattle.flash.proofs.Filling.{Ready}
-use Rattle.flash.proofs.Moving.{Moved, moved}
+use Rattle.flash.proofs.Moving.{Moved, moved, copy-inside}
 use Rattle.flash.proofs.Clearing.{erases-append, erases-none}
 use Rattle.flash.proofs.Unused.{SparesUnused, spares-append, erasing-spares}
-use Rattle.flash.proofs.Erased.{erasing-asked, wiped-count, wiped-count-other, wiped-slot, wiped-free, wiped-found, wiped-map, wiped-ready}
+use Rattle.flash.proofs.Erased.{erasing-asked, wiped-count, wiped-count-other, wiped-entry, wiped-slot, wiped-free, wiped-found, wiped-map, wiped-ready}
 
 -- what the reclaim of v into t leaves, by these steps; a right table stays right when each copied number is noted
 pub record Reclaimed (geo : Geometry) (image : Image) (v t : ℕ) (steps : List Step) : Type 0 where
@@ -40,6 +42,13 @@ pub record Reclaimed (geo : Geometry) (image : Image) (v t : ℕ) (steps : List 
   pub left-free : (j : ℕ) → liveSlots geo image v ≤ j → j < d geo → slot geo (run geo image steps) t j ≡ Free
   pub used : (j : ℕ) → j < liveSlots geo image v → isFree (slot geo (run geo image steps) t j) ≡ false
   pub others : (c j : ℕ) → c < geo .blocks → c ≢ v → c ≢ t → j < d geo → slot geo (run geo image steps) c j ≡ slot geo image c j
+  pub entries : (c j : ℕ) → c < geo .blocks → c ≢ v → c ≢ t → j < d geo → entry geo (run geo image steps) c j ≡ entry geo image c j
+  pub copies :
+      (j n : ℕ) →
+      j < d geo →
+      slot geo image v j ≡ Live n →
+      (slot geo (run geo image steps) t (liveBefore geo image v j) ≡ Live n)
+      × (entry geo (run geo image steps) t (liveBefore geo image v j) ≡ 0xC0000000 + n)
   pub map : (n : ℕ) → mapOf geo (run geo image steps) n ≡ mapOf geo image n
   pub right : tableCopied geo image v t (rightTable geo image) (d geo) ≡ rightTable geo (run geo image steps)
 
@@ -111,6 +120,16 @@ module _
               rw after
               (ap isFree (wiped-slot geo copy (m .ready) v count victim-in fits t j target-in (λ e. apart (sym e)) (omega (arith, spare))) ∙ m .used j (omega (arith, taken)));
           others = λ c j l n n' h. rw after (wiped-slot geo copy (m .ready) v count victim-in fits c j l n h ∙ m .others c j l n n' h);
+          entries = λ c j l n n' h.
+              rw after (wiped-entry geo copy (m .ready) v count victim-in fits c j n h ∙ m .entries c j l n' h (λ e. absurd (n e)));
+          copies = λ j n l e.
+              let made = m .copies j n l l e in
+              let inside = copy-inside geo image v t start victim-in target-in apart blank-slots spare j l in
+              let other : t ≢ v = λ q. apart (sym q) in
+              rw after (
+                wiped-slot geo copy (m .ready) v count victim-in fits t (liveBefore geo image v j) target-in other inside ∙ made .0,
+                wiped-entry geo copy (m .ready) v count victim-in fits t (liveBefore geo image v j) other inside ∙ made .1,
+              );
           map = λ n. rw after (wiped-map geo copy (m .ready) v count victim-in fits none-live n ∙ m .map n);
           right =
               m .right

@@ -32,7 +32,8 @@ use Rattle.image.proofs.Finding.{LiveAt, found-live, none-found, map-nothing, f
 use Rattle.image.proofs.Places.{apart, contents-at, contents-are, contents-long}
 use Rattle.tables.specs.Tables.{rightTable}
 use Rattle.tables.proofs.Laws.{right-noted}
-use Rattle.flash.specs.Steps.{Step, run, wordsIn, erasuresIn, leavesAsked}
+use Rattle.flash.specs.declared.Step.{Step}
+use Rattle.flash.specs.Steps.{run, wordsIn, erasuresIn, leavesAsked}
 use Rattle.flash.specs.Placing.{programsEntry, releasing}
 use Rattle.flash.specs.Tables.{tableReleased}
 use Rattle.flash.proofs.Stores.{Exact, last-here, last-other, exact-one, run-words}

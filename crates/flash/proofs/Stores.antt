@@ -17,7 +17,9 @@ use Rattle.bits.specs.Word.{programmed}
 use Rattle.bits.proofs.Programming.{programmed-lt}
 use Rattle.geometry.specs.declared.Geometry.{Geometry}
 use Rattle.image.specs.Words.{Image, Words32, word}
-use Rattle.flash.specs.Steps.{Step, Program, Erase, programmedAt, applied, run, wordsIn, erasuresIn, leavesAsked}
+use Rattle.flash.specs.declared.Step.{Step}
+use Rattle.flash.specs.declared.Step.the-variants.{Program, Erase}
+use Rattle.flash.specs.Steps.{programmedAt, applied, run, wordsIn, erasuresIn, leavesAsked}
 
 -- ---- steps one after the other
 

@@ -19,7 +19,9 @@ use Rattle.image.specs.Words.{Image, eraseCount}
 use Rattle.image.specs.Slots.{validBit, find}
 use Rattle.image.specs.Blocks.{full}
 use Rattle.image.proofs.Places.{apart}
-use Rattle.flash.specs.Steps.{Step, Program, Erase, run, programsWord}
+use Rattle.flash.specs.declared.Step.{Step}
+use Rattle.flash.specs.declared.Step.the-variants.{Program, Erase}
+use Rattle.flash.specs.Steps.{run, programsWord}
 use Rattle.flash.specs.Placing.{InImage, entryAt, programsEntry, takesSlot, outdates, storesContents, beginsEntry, completesEntry, retires, closesBlock, leastLive, greatestLive, fillsSlot, placing, releasing}
 use Rattle.flash.specs.Writing.{erasing}
 use Rattle.flash.proofs.CodeLaws.{found-inside}

@@ -17,16 +17,19 @@ use Rattle.geometry.specs.declared.Geometry.{Geometry}
 use Rattle.geometry.specs.Geometry.{Limits, d, g, sectorWords}
 use Rattle.geometry.proofs.Laws.{d-positive, g-positive, g-at-most-d}
 use Rattle.image.specs.declared.Slot.{Slot}
-use Rattle.image.specs.Words.{Image, Words32, eraseCount}
+use Rattle.image.specs.Words.{Image, Shaped, Words32, eraseCount}
 use Rattle.image.specs.Slots.{slot, isFree, find, mapOf, isAt}
 use Rattle.image.specs.Blocks.{blank, full, isOpen, freeSlots, liveSlots, deadSlots, lessWorn, leastWornBlank, preferred, victim}
-use Rattle.image.specs.WellFormed.{ceiling, R6}
+use Rattle.image.specs.WellFormed.{ceiling, R6, wellFormed}
 use Rattle.image.proofs.Capacity.{block-parts, blank-free, full-free, shut-full, blank-not-full, free-is-a-block, victim-dead}
+use Rattle.image.proofs.Facts.{sound-facts, formed-sound}
 use Rattle.tables.specs.Tables.{rightTable}
-use Rattle.flash.specs.Steps.{Step, run, wordsIn, erasuresIn, erasesBlock, leavesAsked}
+use Rattle.flash.specs.declared.Plan.the-variants.{Reclaim}
+use Rattle.flash.specs.declared.Step.{Step}
+use Rattle.flash.specs.Steps.{run, wordsIn, erasuresIn, erasesBlock, leavesAsked}
 use Rattle.flash.specs.Placing.{placing}
-use Rattle.flash.specs.Writing.{EachInTurn, filling, mustReclaim, copying, reclaiming, reclaimingFirst, writing}
-use Rattle.flash.specs.Tables.{tableReclaimed, tableFilled, tableReclaimedFirst, tableWritten}
+use Rattle.flash.specs.Writing.{EachInTurn, filling, mustReclaim, copying, reclaiming, reclaimingFirst, writing, planned}
+use Rattle.flash.specs.Tables.{tableCopied, tableReclaimed, tableFilled, tableReclaimedFirst, tableWritten}
 use Rattle.flash.proofs.Stores.{run-append, asked-append, words-append, erasures-append}
 use Rattle.flash.proofs.Clearing.{erases-append, erases-none}
 use Rattle.flash.proofs.Counts.{placing-erasures, filling-erases-nothing}
@@ -34,9 +37,10 @@ use Rattle.flash.proofs.Unused.{SparesUnused, spares-append, placing-sp
 use Rattle.flash.proofs.Filling.{Ready, Target}
 use Rattle.flash.proofs.Placed.{Placed, placing-exact, placing-placed, placing-bounds, placing-cost, placing-shaped, placing-words32}
 use Rattle.flash.proofs.Kept.{free-as-before, placed-sound, placed-right, placed-here, placed-other, placed-free}
-use Rattle.flash.proofs.Moving.{moved, each-in-turn}
+use Rattle.flash.proofs.Moving.{Moved, moved, each-in-turn}
 use Rattle.flash.proofs.Reclaimed.{Reclaimed, reclaimed}
 use Rattle.flash.proofs.Chosen.{Choice, blank-slot, slots-blank, choice, reclaim-says}
+use Rattle.flash.proofs.Planned.{plan-says}
 
 -- the free slots of an image, and the sum of its erase counts
 abbrev pub freeIn : Geometry → Image → ℕ
@@ -167,10 +171,10 @@ module _
     limits : Limits geo
     limits = start .shaped .limits
 
-    none-open : (c : ℕ) → c < geo .blocks → isOpen geo image c ≡ false
+    pub none-open : (c : ℕ) → c < geo .blocks → isOpen geo image c ≡ false
     none-open = reclaim-says geo image limits must .0
 
-    one-blank : countBelow (geo .blocks) (blank geo image) ≡ 1
+    pub one-blank : countBelow (geo .blocks) (blank geo image) ≡ 1
     one-blank = reclaim-says geo image limits must .1
 
     -- the blank block
@@ -184,18 +188,18 @@ module _
     unfolding leastWornBlank
     blank-in = best-some (lessWorn geo image) (geo .blocks) (blank geo image) (some-blank .1) (some-blank .2)
 
-    is-blank : blank geo image t ≡ true
+    pub is-blank : blank geo image t ≡ true
     unfolding leastWornBlank
     is-blank = best-passes (lessWorn geo image) (geo .blocks) (blank geo image) blank-in
 
-    apart : v ≢ t
+    pub apart : v ≢ t
     apart e = blank-not-full geo image (start .sound) limits t is-blank (ap (full geo image) (sym e) ∙ victim-is .filled)
 
     live-few : liveSlots geo image v + g geo ≤ d geo
     live-few =
         omega (arith, block-parts geo image (start .sound) v (victim-is .block), full-free geo image (start .sound) v (victim-is .filled), victim-is .dead)
 
-    spare : liveSlots geo image v < d geo
+    pub spare : liveSlots geo image v < d geo
     spare = omega (arith, live-few, g-positive geo limits)
 
     abbrev base : Image
@@ -207,15 +211,24 @@ module _
         reclaimed geo image v t start (victim-is .block) blank-in apart
         (blank-slot geo image t is-blank) spare (victim-is .wearable)
 
+    pub reclaim-leaves : Reclaimed geo image v t (reclaiming geo image v)
+    reclaim-leaves = r
+
     pub victim-in-turn : EachInTurn geo image v t
     victim-in-turn = each-in-turn geo image v t start (victim-is .block) blank-in apart (blank-slot geo image t is-blank) spare
+
+    -- how the image stands when slot m of the victim has its turn
+    pub victim-moved :
+        (m : ℕ) →
+        m ≤ d geo →
+        Moved geo image v t start (victim-is .block) blank-in apart (blank-slot geo image t is-blank) spare m
+        (copying geo image v t m) (tableCopied geo image v t (rightTable geo image) m)
+    victim-moved = moved geo image v t start (victim-is .block) blank-in apart (blank-slot geo image t is-blank) spare
 
     -- a slot of the victim is as it was at the start when it has its turn
     pub victim-at-turn :
         (m : ℕ) → m < d geo → slot geo (run geo image (copying geo image v t m .steps)) v m ≡ slot geo image v m
-    victim-at-turn m l =
-        moved geo image v t start (victim-is .block) blank-in apart (blank-slot geo image t is-blank) spare m (omega arith)
-        .later m (omega arith) l
+    victim-at-turn m l = victim-moved m (omega arith) .later m (omega arith) l
 
     -- a right table stays right when each copied number is noted where it was placed: the erasing moves none
     pub reclaiming-right : tableReclaimed geo image v (rightTable geo image) ≡ rightTable geo base
@@ -223,13 +236,13 @@ module _
     reclaiming-right = r .right
 
     -- afterwards no reclaim is needed: the victim is blank, and the other block is open or blank too
-    victim-blank : blank geo base v ≡ true
+    pub victim-blank : blank geo base v ≡ true
     victim-blank = slots-blank geo base v (r .emptied)
 
-    target-blank : liveSlots geo image v ≡ 0 → blank geo base t ≡ true
+    pub target-blank : liveSlots geo image v ≡ 0 → blank geo base t ≡ true
     target-blank e = slots-blank geo base t (λ j l. r .left-free j (omega arith) l)
 
-    target-open : 1 ≤ liveSlots geo image v → isOpen geo base t ≡ true
+    pub target-open : 1 ≤ liveSlots geo image v → isOpen geo base t ≡ true
     unfolding blank full
     target-open l =
         let some-used = not-all (d geo) (λ j. isFree (slot geo base t j)) {i = 0} (d-positive geo limits) (r .used 0 l) in
@@ -313,10 +326,6 @@ module _
           go true t = refl
           go false t = sym (erases-none second placed b) ∙ t
 
-      pub reclaiming-once : erasuresIn (reclaimingFirst geo image v n ws) ≡ 1
-      unfolding reclaimingFirst
-      reclaiming-once = erasures-append first _ ∙ ap₂ _+_ (r .erasures) (filling-erases-nothing geo _ n ws)
-
       pub reclaiming-wrote : Wrote geo image n ws v (reclaimingFirst geo image v n ws)
       unfolding reclaimingFirst
       reclaiming-wrote =
@@ -382,6 +391,21 @@ module _ (geo : Geometry) (image : Image) (start : Ready geo image) (must : must
         dead = victim-dead geo image (start .sound) rule-limits (says .0) (says .1);
         wearable = omega (arith, start .sound .worn (victim geo image) victim-in);
       }
+
+-- what a plan to reclaim v gives: the image is one that laws speak of, rule 3 applies, and v may be reclaimed
+pub record Reclaims (geo : Geometry) (image : Image) (v : ℕ) : Type 0 where
+  pub ready : Ready geo image
+  pub must : mustReclaim geo image ≡ true
+  pub victim-is : Reclaimable geo image v
+
+-- by what the contracts ask
+pub reclaims :
+    (geo : Geometry) (image : Image) (v : ℕ) →
+    Shaped geo image → wellFormed geo image ≡ true → planned geo image ≡ Reclaim v → Words32 image → Reclaims geo image v
+reclaims geo image v shaped formed plan words =
+    let says = plan-says geo image v plan in
+    let ready : Ready geo image = record { shaped = shaped; words = words; sound = sound-facts geo image (formed-sound geo image formed) } in
+    record { ready = ready; must = says .0; victim-is = rw (says .1) (victim-reclaimable geo image ready (says .0) (says .2)) }
 
 -- an accepted write
 module _

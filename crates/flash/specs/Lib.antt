@@ -1,4 +1,5 @@
 pub mod Steps
 pub mod Placing
 pub mod Writing
+pub mod Ahead
 pub mod Tables

@@ -15,7 +15,9 @@ use Rattle.image.specs.Words.{Image, freeMap, entry}
 use Rattle.image.specs.Slots.{validBit, currentBit, find, liveIn}
 use Rattle.image.specs.Blocks.{full}
 use Rattle.flash.specs.declared.LiveBounds.{LiveBounds}
-use Rattle.flash.specs.Steps.{Step, Program, run}
+use Rattle.flash.specs.declared.Step.{Step}
+use Rattle.flash.specs.declared.Step.the-variants.{Program}
+use Rattle.flash.specs.Steps.{run}
 
 -- a place that was found lies in the image
 pub record InImage (geo : Geometry) (found : Found) : Type 0 where
@@ -66,12 +68,13 @@ module _ (geo : Geometry) where
   abbrev pub liveBounds : Image → ℕ → LiveBounds
   liveBounds image b = record { least = leastLive image b; greatest = greatestLive image b }
 
+  -- words 1 and 2 of block b programmed
+  abbrev pub programsBounds : ℕ → ℕ → ℕ → List Step
+  programsBounds b least greatest = Program (place geo b leastWord) least ∷ Program (place geo b greatestWord) greatest ∷ []
+
   -- (g): in a block that is full now, words 1 and 2 with the bounds of its live numbers, on the image after (f)
   unfoldable pub closesBlock : Image → ℕ → List Step
-  closesBlock image b =
-      cond (full geo image b)
-      (Program (place geo b leastWord) (leastLive image b) ∷ Program (place geo b greatestWord) (greatestLive image b) ∷ [])
-      []
+  closesBlock image b = cond (full geo image b) (programsBounds b (leastLive image b) (greatestLive image b)) []
 
   -- (a) to (f): n, with its contents ws, in slot i of block b, where n was found before at old
   unfoldable pub fillsSlot : Image → Found → ℕ → List ℕ → ℕ → ℕ → List Step

@@ -1,21 +1,19 @@
--- The two kinds of step, what each does to an image, and how many of each a list of steps has (FORMAT.md, Steps).
+-- What each of the two kinds of step does to an image, how many of each a list of steps has, its step i and its first steps (FORMAT.md, Steps).
 use mathlib.Core.Bool.{Bool, true, false, _&&_, _||_}
 use mathlib.Core.List.{List, [], _∷_, _++_}
-use Prim.Native.Nat.{ℕ, suc}
+use Prim.Native.Nat.{ℕ, zero, suc, _-_}
 use lib.Dec.{eqb}
-use lib.ListN.{set, take, drop, replicate}
+use lib.ListN.{length, set, take, drop, replicate}
 use Rattle.bits.specs.Word.{ones, programmed}
 use Rattle.geometry.specs.declared.Geometry.{Geometry}
 use Rattle.geometry.specs.Geometry.{blockLength}
 use Rattle.geometry.specs.Places.{place}
 use Rattle.image.specs.Words.{Image, word}
-
--- a word to program, or a block to erase
-pub data Step : Type 0 where
-  -- a place, and the word asked for there
-  Program : ℕ → ℕ → Step
-  -- a block
-  Erase : ℕ → Step
+use Rattle.flash.specs.declared.Step.{Step}
+use Rattle.flash.specs.declared.Step.the-variants.{Program, Erase}
+use Rattle.flash.specs.declared.Progress.{Progress}
+use Rattle.flash.specs.declared.NextStep.{NextStep}
+use Rattle.flash.specs.declared.NextStep.the-variants.{Next, Done}
 
 -- the image with every word of block b all ones
 unfoldable pub erasedBlock : Geometry → Image → ℕ → Image
@@ -65,3 +63,17 @@ leavesAsked geo image [] = true
 leavesAsked geo image (Program p w ∷ ss) =
     eqb (word (applied geo image (Program p w)) p) w && leavesAsked geo (applied geo image (Program p w)) ss
 leavesAsked geo image (Erase b ∷ ss) = leavesAsked geo (applied geo image (Erase b)) ss
+
+-- K4: step i of a list, from 0, or that there is none
+unfoldable pub stepAt : List Step → ℕ → NextStep
+stepAt [] i = Done
+stepAt (s ∷ ss) zero = Next s
+stepAt (s ∷ ss) (suc i) = stepAt ss i
+
+-- K4: the first j steps of a list; all of them where there are fewer
+abbrev pub firstOf : ℕ → List Step → List Step
+firstOf j steps = take j steps
+
+-- how far the first `most` steps of a list come
+abbrev pub progress : ℕ → List Step → Progress
+progress most steps = record { left = most - length steps; erasures = erasuresIn (firstOf most steps) }

@@ -18,7 +18,9 @@ use Rattle.image.specs.Blocks.{blank, isOpen, lowestFree, lowestOpen, leastWorn
 use Rattle.image.specs.WellFormed.{ceiling, sound}
 use Rattle.flash.specs.declared.Plan.{Plan}
 use Rattle.flash.specs.declared.Plan.the-variants.{Fill, Reclaim, Worn}
-use Rattle.flash.specs.Steps.{Step, Program, Erase, run}
+use Rattle.flash.specs.declared.Step.{Step}
+use Rattle.flash.specs.declared.Step.the-variants.{Program, Erase}
+use Rattle.flash.specs.Steps.{run}
 use Rattle.flash.specs.Placing.{placing}
 
 -- the steps of a reclaim so far, and how many slots of the blank block they took
@@ -88,8 +90,11 @@ module _ (geo : Geometry) where
         (m n : ℕ) → m < d geo → slot geo (atTurn image v t m) v m ≡ Live n → slot geo (atTurn image v t m) t (copying image v t m .taken) ≡ Free
 
   -- the end of a reclaim: v is erased, and its word 0 programmed with one more than it was
+  abbrev pub erasesVictim : ℕ → ℕ → List Step
+  erasesVictim v count = Erase v ∷ Program (place geo v eraseWord) (count + 1) ∷ []
+
   abbrev pub erasing : Image → ℕ → List Step
-  erasing image v = Erase v ∷ Program (place geo v eraseWord) (eraseCount geo image v + 1) ∷ []
+  erasing image v = erasesVictim v (eraseCount geo image v)
 
   -- the reclaim of block v into the blank block: there is a single one, so it is the least worn
   unfoldable pub reclaiming : Image → ℕ → List Step

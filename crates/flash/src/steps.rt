@@ -1,9 +1,12 @@
+ghost use mathlib.Core.List.{[], _∷_};
 ghost use mathlib.Core.Path.{_≡_};
-ghost use Prim.Native.Nat.{_<_};
+ghost use Prim.Native.Nat.{_-_, _<_};
 ghost use lib.ListN.{length, replicate};
 ghost use Rattle.bits.specs.Word.{ones};
 ghost use Rattle.image.specs.Words.{Shaped};
-ghost use Rattle.flash.specs.Steps.{programmedAt, erasedBlock};
+ghost use Rattle.geometry.specs.declared.Geometry.{Geometry};
+ghost use Rattle.flash.specs.declared.Step.the-variants.{Program};
+ghost use Rattle.flash.specs.Steps.{programmedAt, run, firstOf, erasedBlock};
 use geometry::Geometry;
 
 // Programs one word: bits of it are cleared where the asked word has them clear.
@@ -12,6 +15,19 @@ pub fn program(image: &mut [u32], place: usize, asked: u32)
     ensures { λ _. ⌜ now (image .exit) ≡ programmedAt (now (image .entry)) place asked ⌝ }
 {
     image[place] = bits::program(image[place], asked);
+}
+
+// Programs one word as a step of those that are left: with none left, nothing is done. Returns how many are left then.
+pub fn program_within(image: &mut [u32], place: usize, asked: u32, left: u32) -> u32
+    requires { ⌜ place < length (now image) ⌝ }
+    ensures { λ r. ⌜ r ≡ left - 1 ⌝ }
+    ensures { λ _. ⌜ ((geo : Geometry) → now (image .exit) ≡ run geo (now (image .entry)) (firstOf left (Program place asked ∷ []))) ⌝ }
+{
+    if left == 0 {
+        return 0;
+    }
+    program(image, place, asked);
+    left - 1
 }
 
 // Sets every word of a part to ones.

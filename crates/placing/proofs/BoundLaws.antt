@@ -1,30 +1,12 @@
--- The first and the last index at which a test passes, when it passes at one index more; and how many words a placing and the copying of a reclaim program at most. Assumes nothing.
+-- The first and the last index at which a test passes, when it passes at one index more. Assumes nothing.
 use mathlib.Core.Path.{_≡_, refl, sym, ap, _∙_}
-use mathlib.Core.List.{List}
-use mathlib.Core.Bool.{Bool, true, false, _||_, or-true}
-use Prim.Native.Nat.{ℕ, zero, suc, _*_, _<_, _≤_, min, max}
+use mathlib.Core.Bool.{Bool, true, false, or-true}
+use Prim.Native.Nat.{ℕ, _<_, min, max}
 use native.Mathlib.Decide.{decLt}
 use native.Mathlib.Omega.{arith}
-use lib.Dec.{eqb}
 use borrow.Author.Tests.{eq-eqb, ne-eqb}
-use Rattle.ranges.specs.Range.{firstBelow, lastBelow}
-use Rattle.ranges.proofs.Sums.{one-if-le}
+use Rattle.ranges.specs.Range.{orAt, firstBelow, lastBelow}
 use Rattle.ranges.proofs.Searches.{best-passes, best-some, first-before, first-is, last-after, last-is}
-use Rattle.geometry.specs.declared.Geometry.{Geometry}
-use Rattle.image.specs.declared.Slot.{Slot}
-use Rattle.image.specs.declared.Slot.the-variants.{Free, Live, Dead, Faulty, Superseded}
-use Rattle.image.specs.Slots.{slot, find, isAt}
-use Rattle.image.specs.Words.{Image, contents}
-use Rattle.image.specs.Blocks.{full}
-use Rattle.flash.specs.Steps.{run, wordsIn}
-use Rattle.flash.specs.Placing.{fillsSlot, placing}
-use Rattle.flash.specs.Writing.{Copied, copiedSlot, copying}
-use Rattle.flash.proofs.Stores.{words-append}
-use Rattle.flash.proofs.Counts.{placing-words}
-
--- a test that passes at n as well
-abbrev pub orAt : (ℕ → Bool) → ℕ → ℕ → Bool
-orAt f n x = f x || eqb n x
 
 module _ (m : ℕ) (f : ℕ → Bool) {n : ℕ} (l : n < m) where
   -- it passes at n, and where the test does
@@ -69,36 +51,3 @@ module _ (m : ℕ) (f : ℕ → Bool) {n : ℕ} (l : n < m) where
           let same : max (lastBelow m f) n ≡ lastBelow m f = omega arith in
           passes-old (ap f same ∙ best-passes (λ i r. true) m f found)
       go found (no h) = passes-new (omega arith)
-
--- a placing programs at most 135 words (FORMAT.md, Costs)
-pub placing-most : (geo : Geometry) (image : Image) (n : ℕ) (ws : List ℕ) (b i : ℕ) → wordsIn (placing geo image n ws b i) ≤ 135
-placing-most geo image n ws b i =
-    omega (
-      arith,
-      placing-words geo image n ws b i,
-      one-if-le (isAt (find geo image n)),
-      one-if-le (full geo (run geo image (fillsSlot geo image (find geo image n) n ws b i)) b),
-    )
-
--- so the copying of m slots programs at most 135 words for each, and takes at most m slots
-pub copying-most :
-    (geo : Geometry) (image : Image) (v t m : ℕ) → (wordsIn (copying geo image v t m .steps) ≤ 135 * m) × (copying geo image v t m .taken ≤ m)
-unfolding copying wordsIn
-copying-most geo image v t zero = omega arith
-copying-most geo image v t (suc m) =
-    let before = copying geo image v t m in
-    let now = run geo image (before .steps) in
-    go before now (copying-most geo image v t m) (slot geo now v m)
-  where
-    go :
-        (before : Copied) (now : Image) →
-        (wordsIn (before .steps) ≤ 135 * m) × (before .taken ≤ m) →
-        (s : Slot) →
-        let after = copiedSlot geo now v t m before s in (wordsIn (after .steps) ≤ 135 * suc m) × (after .taken ≤ suc m)
-    go before now h Free = omega arith
-    go before now h (Live n) =
-        let ws = contents geo now v m in
-        omega (arith, words-append (before .steps) (placing geo now n ws t (before .taken)), placing-most geo now n ws t (before .taken))
-    go before now h Dead = omega arith
-    go before now h Faulty = omega arith
-    go before now h Superseded = omega arith

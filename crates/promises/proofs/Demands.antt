@@ -16,7 +16,8 @@ use Rattle.image.specs.Blocks.{victim}
 use Rattle.image.specs.Faults.{firstFault}
 use Rattle.image.proofs.Facts.{facts-formed}
 use Rattle.image.proofs.Finding.{map-at, map-nothing}
-use Rattle.flash.specs.Steps.{Step, run, erasuresIn, erasesBlock}
+use Rattle.flash.specs.declared.Step.{Step}
+use Rattle.flash.specs.Steps.{run, erasuresIn, erasesBlock}
 use Rattle.flash.specs.Placing.{releasing}
 use Rattle.flash.specs.Writing.{mustReclaim, writing}
 use Rattle.flash.proofs.Stores.{run-none}
@@ -32,7 +33,7 @@ use Rattle.promises.specs.Runs.{ran, started}
 use Rattle.promises.specs.Demands.{Refusals, EveryAnswerNamesThePair, RefusedChangesNothing, ReadReturnsTheMap, WriteSetsOneSector, ReleaseRemovesOneSector, AStepOnlyClears, ProgrammingOnlyClears, OnlyTheVictimIsErased, StepsLeaveTheAskedWord, WriteBound, RunBound, RunBoundFromAny}
 use Rattle.calls.proofs.CallLaws.{formed-ready}
 use Rattle.promises.proofs.Given.{given-exactly, names-the-pair, if-either}
-use Rattle.promises.proofs.Accepted.{check-accepted, format-accepted, read-accepted, write-steps, write-wrote, release-steps, release-blank, release-released}
+use Rattle.calls.proofs.AcceptedCalls.{check-accepted, format-accepted, read-accepted, write-steps, write-wrote, release-steps, release-blank, release-released}
 use Rattle.promises.proofs.Fresh.{fresh-ready, fresh-blank, fresh-frees, fresh-worn}
 use Rattle.promises.proofs.Running.{runs}
 

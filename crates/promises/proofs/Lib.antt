@@ -5,3 +5,4 @@ pub mod Running
 pub mod Demands
 pub mod Properties
 pub mod Tables
+pub mod Stepwise

@@ -30,7 +30,7 @@ use Rattle.calls.specs.Refusals.{checkAnswer, readAnswer, writeAnswer, releaseA
 use Rattle.calls.specs.Calls.{fresh, formatted, totalsOf, noTotals, reported, readBuffer, writeSteps, releaseSteps}
 use Rattle.promises.specs.Runs.{ran, started}
 use Rattle.promises.specs.Properties.{TheOneSlot, EachSlotByItself, FormatMakesAFreshImage, RunsStayWellFormed, ReportAddsUp, OthersReadAsBefore, UnusedWordsAreNotProgrammed, PlacingCosts, WearAndFreeSlots}
-use Rattle.promises.proofs.Accepted.{check-accepted, format-accepted, write-accepted, write-steps, write-wrote, release-accepted, release-steps, release-blank, release-released}
+use Rattle.calls.proofs.AcceptedCalls.{check-accepted, format-accepted, write-accepted, write-steps, write-wrote, release-accepted, release-steps, release-blank, release-released}
 use Rattle.promises.proofs.Fresh.{fresh-ready, fresh-blank, fresh-formed, fresh-map, fresh-frees, fresh-worn}
 use Rattle.promises.proofs.Running.{Good, runs}
 use Rattle.calls.proofs.CallLaws.{formed-ready}

@@ -8,7 +8,8 @@ use Rattle.geometry.specs.declared.Geometry.{Geometry}
 use Rattle.geometry.specs.Geometry.{d, g}
 use Rattle.image.specs.Words.{Image}
 use Rattle.image.specs.WellFormed.{R6}
-use Rattle.flash.specs.Steps.{Step, run, erasuresIn}
+use Rattle.flash.specs.declared.Step.{Step}
+use Rattle.flash.specs.Steps.{run, erasuresIn}
 use Rattle.flash.specs.Placing.{releasing}
 use Rattle.flash.specs.Writing.{writing}
 use Rattle.flash.proofs.Filling.{Ready}
@@ -23,8 +24,9 @@ use Rattle.calls.specs.Refusals.{writeAnswer, releaseAnswer}
 use Rattle.calls.specs.Calls.{writeStepsAfter, writeSteps, releaseStepsAfter, releaseSteps}
 use Rattle.tabled.specs.Refusals.{writeAnswerWith, releaseAnswerWith}
 use Rattle.tabled.specs.Calls.{writeStepsWith, releaseStepsWith}
-use Rattle.promises.specs.Runs.{Call, Check, Report, Read, Write, Release, Build, ReadWith, WriteWith, ReleaseWith, State, called, ran}
-use Rattle.promises.proofs.Accepted.{write-by-length, write-wrote, release-released, write-too, release-too}
+use Rattle.promises.specs.Runs.{Call, Check, Report, Read, Write, Release, WriteStep, ReleaseStep, Build, ReadWith, WriteWith, ReleaseWith, State, called, ran}
+use Rattle.calls.proofs.AcceptedCalls.{write-by-length, write-wrote, release-released}
+use Rattle.promises.proofs.Accepted.{write-too, release-too}
 
 -- an image that is well formed, of the right shape and of 32-bit words
 pub record Good (geo : Geometry) (image : Image) : Type 0 where
@@ -206,6 +208,8 @@ module _ (geo : Geometry) where
   runs (Release n ∷ cs) s good =
       let st = release-step s n (releaseAnswer geo (s .image) n) (λ a. a) good in
       joined s (called geo s (Release n)) (ran geo (called geo s (Release n)) cs) st (runs cs (called geo s (Release n)) (st .good))
+  runs (WriteStep n buffer i ∷ cs) s good = runs cs s good
+  runs (ReleaseStep n i ∷ cs) s good = runs cs s good
   runs (Build table ∷ cs) s good = runs cs s good
   runs (ReadWith n buffer table ∷ cs) s good = runs cs s good
   runs (WriteWith n buffer table ∷ cs) s good =

@@ -30,7 +30,8 @@ use Rattle.tabled.specs.Calls.{tableBuilt, readBufferWith, writeStepsWith, writ
 use Rattle.tabled.proofs.TableLaws.{build-checks, read-alike, write-alike, release-alike}
 use Rattle.promises.specs.Tables.{RightWords, RefusalsWithATable, SameWithAnyTable, AnotherLengthIsRefused, RefusedChangesNoTable, RightTablesStayRight, OtherWordsStay, SetWordsAreRight}
 use Rattle.promises.proofs.Given.{given-exactly, names-the-pair, if-either}
-use Rattle.promises.proofs.Accepted.{write-others, write-right, write-sets, release-right, write-too, write-has-words, release-too, release-has-word}
+use Rattle.calls.proofs.AcceptedCalls.{write-others, write-right, write-sets, release-right}
+use Rattle.promises.proofs.Accepted.{write-too, write-has-words, release-too, release-has-word}
 
 pub right-words : RightWords
 right-words geo image = (

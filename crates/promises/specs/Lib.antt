@@ -2,3 +2,4 @@ pub mod Runs
 pub mod Demands
 pub mod Properties
 pub mod Tables
+pub mod Stepwise

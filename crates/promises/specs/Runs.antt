@@ -1,4 +1,5 @@
--- A run: calls made one after the other with one geometry, its accepted writes and its erasures (FORMAT.md, Costs).
+-- A run: calls made one after the other with one geometry, its accepted writes and its erasures (FORMAT.md, Costs). Those that do only the first
+-- steps of a write or a release (K4) are in none.
 use mathlib.Core.List.{List, [], _∷_}
 use Prim.Native.Nat.{ℕ, _+_}
 use Rattle.geometry.specs.declared.Geometry.{Geometry}
@@ -17,6 +18,8 @@ pub data Call : Type 0 where
   Read : ℕ → List ℕ → Call
   Write : ℕ → List ℕ → Call
   Release : ℕ → Call
+  WriteStep : ℕ → List ℕ → ℕ → Call
+  ReleaseStep : ℕ → ℕ → Call
   Build : Table → Call
   ReadWith : ℕ → List ℕ → Table → Call
   WriteWith : ℕ → List ℕ → Table → Call
@@ -29,7 +32,7 @@ pub record State : Type 0 where
   pub erasures : ℕ
 
 module _ (geo : Geometry) where
-  -- what one call leaves: check, report, read and the building of a table change nothing
+  -- what one call leaves: check, report, read, the calls for one step (K4) and the building of a table change nothing
   unfoldable pub called : State → Call → State
   called s Check = s
   called s Report = s
@@ -46,6 +49,8 @@ module _ (geo : Geometry) where
         writes = s .writes;
         erasures = s .erasures + releaseOutcome geo (s .image) n .erasures;
       }
+  called s (WriteStep n buffer i) = s
+  called s (ReleaseStep n i) = s
   called s (Build table) = s
   called s (ReadWith n buffer table) = s
   called s (WriteWith n buffer table) =

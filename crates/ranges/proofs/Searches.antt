@@ -145,6 +145,37 @@ module _ (beats : ℕ → ℕ → Bool) where
       ⊎-elim (λ q. (omega arith, rw q (less m r (rw (sym (ap f q) ∙ t) at b)))) (λ h. (omega arith, p i h t .1)) (below-suc l))
       m .0 i l t .1
 
+-- Where beating is to have less of something, none has less than the best, and none before it as little.
+pub best-least :
+    (key : ℕ → ℕ) (m : ℕ) (f : ℕ → Bool) {i : ℕ} →
+    i < m →
+    f i ≡ true →
+    let r = bestBelow (λ i r. ltb (key i) (key r)) m f in
+    (key r ≤ key i) × (key r ≡ key i → r ≤ i)
+best-least key m f {i} l t =
+    best-ind (λ i r. ltb (key i) (key r)) f (λ m r. (i : ℕ) → i < m → f i ≡ true → (r < m) × ((key r ≤ key i) × (key r ≡ key i → r ≤ i)))
+    (λ i l t. absurd (omega arith))
+    (λ m p e i l t.
+    ⊎-elim (λ q. (omega arith, (rw q (le-refl (key m)), λ s. omega arith))) (λ k. absurd (omega (arith, p i k t .0))) (below-suc l))
+    (λ m p e i l t.
+    ⊎-elim
+    (λ q. absurd (true≢false (sym t ∙ ap f q ∙ e)))
+    (λ k. absurd (omega (arith, p i k t .0)))
+    (below-suc l))
+    (λ m r p k e b i l t.
+    ⊎-elim
+    (λ q. (omega arith, (rw q (le-refl (key m)), λ s. omega arith)))
+    (λ h.
+    let less = ltb-true (key m) (key r) b in
+    (omega arith, (omega (arith, p i h t .1 .0, less), λ s. absurd (omega (arith, p i h t .1 .0, less)))))
+    (below-suc l))
+    (λ m r p k b i l t.
+    ⊎-elim
+    (λ q. (omega arith, (rw q (ltb-false (key m) (key r) (rw (sym (ap f q) ∙ t) at b)), λ s. omega arith)))
+    (λ h. (omega arith, p i h t .1))
+    (below-suc l))
+    m .0 i l t .1
+
 -- the same indices pass, and the same beat each other
 pub best-ext :
     (m : ℕ) {f g : ℕ → Bool} {beats wins : ℕ → ℕ → Bool} →

@@ -3,7 +3,7 @@
 use mathlib.Core.Bool.{Bool, true, false, cond, _&&_, _||_}
 use mathlib.Core.List.{List, [], _∷_, _++_}
 use Prim.Native.Nat.{ℕ, zero, suc, _+_}
-use lib.Dec.{ltb}
+use lib.Dec.{eqb, ltb}
 
 infixr 25 _implies_
 -- a test that is asked only where another passes
@@ -25,6 +25,10 @@ allBelow (suc m) f = allBelow m f && f m
 unfoldable pub anyBelow : ℕ → (ℕ → Bool) → Bool
 anyBelow zero f = false
 anyBelow (suc m) f = anyBelow m f || f m
+
+-- a test that passes at n as well
+abbrev pub orAt : (ℕ → Bool) → ℕ → ℕ → Bool
+orAt f n i = f i || eqb n i
 
 -- f 0 + f 1 + .. + f (m − 1)
 unfoldable pub sumBelow : ℕ → (ℕ → ℕ) → ℕ

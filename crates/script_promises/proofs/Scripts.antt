@@ -21,7 +21,7 @@ use Rattle.answers.proofs.Acceptance.{accepted-number, if-accepted, if-refused,
 use Rattle.calls.specs.Refusals.{row1, formatAnswer, checkAnswer, writeAnswer}
 use Rattle.calls.specs.Calls.{fresh, formatted, written, released, totalsOf, noTotals, reported}
 use Rattle.promises.specs.Runs.{Call, Check, Write, Release, State, called, ran, started}
-use Rattle.promises.proofs.Accepted.{format-accepted}
+use Rattle.calls.proofs.AcceptedCalls.{format-accepted}
 use Rattle.promises.proofs.Demands.{refused-changes-nothing, run-bound}
 use Rattle.promises.proofs.Properties.{runs-stay-well-formed}
 use Rattle.records.specs.declared.Line.{Line}

@@ -6,22 +6,28 @@ use mathlib.Core.List.{List, []}
 use Prim.Native.Nat.{ℕ, _<_}
 use native.Mathlib.Decide.{decLt}
 use native.Mathlib.Omega.{arith}
+use lib.Seq.{take-nil}
 use Rattle.geometry.specs.declared.Geometry.{Geometry}
 use Rattle.geometry.specs.Geometry.{shape, withinLimits, Limits}
 use Rattle.geometry.proofs.Laws.{limits-hold}
 use Rattle.image.specs.Words.{Image}
 use Rattle.tables.specs.Tables.{Table}
-use Rattle.flash.specs.Steps.{wordsIn, erasuresIn}
+use Rattle.flash.specs.declared.Step.{Step}
+use Rattle.flash.specs.declared.NextStep.the-variants.{Done}
+use Rattle.flash.specs.Steps.{wordsIn, erasuresIn, stepAt}
 use Rattle.flash.proofs.Stores.{run-none}
 use Rattle.answers.specs.declared.Answer.{Answer}
 use Rattle.answers.specs.declared.Answer.the-variants.{BadGeometry}
 use Rattle.answers.specs.Answers.{numberOf, blockOf, ruleOf}
 use Rattle.calls.specs.declared.Outcome.{Outcome}
 use Rattle.calls.specs.Refusals.{formatAnswer, checkAnswer, readAnswer, writeAnswer, releaseAnswer}
-use Rattle.calls.specs.Calls.{formatOutcome, formatted, noTotals, reported, readBuffer, outcome, writeSteps, writeOutcome, written, releaseSteps, releaseOutcome, released}
+use Rattle.calls.specs.Calls.{formatOutcome, formatted, noTotals, reported, readBuffer, outcome, writeSteps, writeOutcome, written, writeFirstOutcome, writtenFirst, releaseSteps, releaseOutcome, released, releaseFirstOutcome, releasedFirst}
+use Rattle.stepwise.specs.declared.Stepped.{Stepped}
+use Rattle.stepwise.specs.Calls.{writeStep, releaseStep}
 use Rattle.tabled.specs.Refusals.{buildAnswer, readAnswerWith, writeAnswerWith, releaseAnswerWith}
 use Rattle.tabled.specs.Calls.{tableBuilt, readBufferWith, writeStepsWith, writeOutcomeWith, writtenWith, writeTable, releaseStepsWith, releaseOutcomeWith, releasedWith, releaseTable}
 use Rattle.shellwaltz_c.specs.Plain.{narrowed}
+use Rattle.shellwaltz_c.specs.Told.{kindOf, placeOf, wordOf}
 
 -- where one limit is broken, the test of all fails
 outside : (geo : Geometry) → (Limits geo → ⊥) → withinLimits geo ≡ false
@@ -147,6 +153,36 @@ module _ {geo : Geometry} (b s l : ℕ) (e : geo ≡ shape (narrowed b) (narrowe
     ),
   )
 
+-- ---- the same step by step (K4): outside the limits there is no step
+module _ {geo : Geometry} (b s l : ℕ) (e : geo ≡ shape (narrowed b) (narrowed s) l) (image : Image) where
+  pub write-step-same : (n : ℕ) (buffer : List ℕ) (i : ℕ) → writeStep geo image n buffer i ≡ writeStep (shape b s l) image n buffer i
+  unfolding writeAnswer writeSteps stepAt
+  write-step-same n buffer i = narrowing (λ x. writeStep x image n buffer i) (record { answer = BadGeometry; next = Done }) (λ x out. rw out) b s l e
+
+  pub release-step-same : (n i : ℕ) → releaseStep geo image n i ≡ releaseStep (shape b s l) image n i
+  unfolding releaseAnswer releaseSteps stepAt
+  release-step-same n i = narrowing (λ x. releaseStep x image n i) (record { answer = BadGeometry; next = Done }) (λ x out. rw out) b s l e
+
+  pub write-first-same :
+      (n : ℕ) (buffer : List ℕ) (j : ℕ) →
+      (writeFirstOutcome geo image n buffer j ≡ writeFirstOutcome (shape b s l) image n buffer j)
+      × (writtenFirst geo image n buffer j ≡ writtenFirst (shape b s l) image n buffer j)
+  unfolding writeAnswer writeSteps
+  write-first-same n buffer j = (
+    narrowing (λ x. writeFirstOutcome x image n buffer j) (outcome BadGeometry []) (λ x out. rw (out, take-nil {A = Step} j)) b s l e,
+    narrowing (λ x. writtenFirst x image n buffer j) image (λ x out. rw (out, take-nil {A = Step} j) (run-none x image)) b s l e,
+  )
+
+  pub release-first-same :
+      (n j : ℕ) →
+      (releaseFirstOutcome geo image n j ≡ releaseFirstOutcome (shape b s l) image n j)
+      × (releasedFirst geo image n j ≡ releasedFirst (shape b s l) image n j)
+  unfolding releaseAnswer releaseSteps
+  release-first-same n j = (
+    narrowing (λ x. releaseFirstOutcome x image n j) (outcome BadGeometry []) (λ x out. rw (out, take-nil {A = Step} j)) b s l e,
+    narrowing (λ x. releasedFirst x image n j) image (λ x out. rw (out, take-nil {A = Step} j) (run-none x image)) b s l e,
+  )
+
 -- what a call gave, and what it gives for the numbers handed in: the answer by its number, the image, and the two counts
 pub parts :
     {number : ℕ} {gave passed says : Outcome} {left passes leaves : Image} →
@@ -195,3 +231,28 @@ pub parts-and-table :
 parts-and-table is-number is-block is-rule (gives, (leaves-it, notes-it)) (same, (same-image, same-table)) =
     let (number, (left, rest)) = parts-and-pair is-number is-block is-rule (gives, leaves-it) (same, same-image) in
     (number, (left, (notes-it ∙ same-table, rest)))
+
+-- the parts of one step of a write or a release, and the pair
+pub step-and-pair :
+    {number kind place word block rule : ℕ} {gave says : Stepped} →
+    number ≡ numberOf (gave .answer) →
+    kind ≡ kindOf (gave .next) →
+    place ≡ placeOf (gave .next) →
+    word ≡ wordOf (gave .next) →
+    block ≡ blockOf (gave .answer) →
+    rule ≡ ruleOf (gave .answer) →
+    gave ≡ says →
+    (number ≡ numberOf (says .answer))
+    × ((kind ≡ kindOf (says .next))
+    × ((place ≡ placeOf (says .next))
+    × ((word ≡ wordOf (says .next)) × ((block ≡ blockOf (says .answer)) × (rule ≡ ruleOf (says .answer))))))
+step-and-pair is-number is-kind is-place is-word is-block is-rule same = (
+  is-number ∙ ap (λ t. numberOf (t .answer)) same,
+  (
+    is-kind ∙ ap (λ t. kindOf (t .next)) same,
+    (
+      is-place ∙ ap (λ t. placeOf (t .next)) same,
+      (is-word ∙ ap (λ t. wordOf (t .next)) same, names is-block is-rule (ap (λ t. t .answer) same)),
+    ),
+  ),
+)

@@ -9,6 +9,7 @@ ghost use Rattle.calls.specs.Calls.{formatted, formatOutcome, reported, readBuf
 ghost use Rattle.shellwaltz_c.specs.Plain.{narrowed};
 use geometry::Geometry;
 
+pub mod by_steps;
 pub mod with_table;
 
 // A number of blocks or sectors in 16 bits: one that does not fit becomes the greatest that does, which breaks its limit as well.

@@ -5,7 +5,8 @@ use Prim.Native.Nat.{ℕ}
 use Rattle.geometry.specs.declared.Geometry.{Geometry}
 use Rattle.image.specs.Words.{Image}
 use Rattle.tables.specs.Tables.{Table, rightTable}
-use Rattle.flash.specs.Steps.{Step, run}
+use Rattle.flash.specs.declared.Step.{Step}
+use Rattle.flash.specs.Steps.{run}
 use Rattle.answers.specs.Answers.{ifAccepted}
 use Rattle.calls.specs.declared.Outcome.{Outcome}
 use Rattle.tabled.specs.Refusals.{buildAnswer, readAnswerWith, writeAnswerWith, releaseAnswerWith}

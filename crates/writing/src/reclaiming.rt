@@ -1,15 +1,14 @@
 ghost use mathlib.Core.Path.{_≡_};
-ghost use Prim.Native.Nat.{_<_};
+ghost use Prim.Native.Nat.{_-_, _<_};
+ghost use lib.ListN.{length};
 ghost use Rattle.geometry.specs.Geometry.{d};
-ghost use Rattle.image.specs.Words.{Shaped, eraseCount};
-ghost use Rattle.image.specs.Blocks.{leastWornBlank};
+ghost use Rattle.image.specs.Words.{Shaped};
 ghost use Rattle.image.specs.WellFormed.{ceiling};
-ghost use Rattle.flash.specs.Steps.{run, wordsIn};
-ghost use Rattle.flash.specs.Writing.{EachInTurn, copying, reclaiming};
-ghost use Rattle.flash.specs.Tables.{tableCopied, tableReclaimed};
-use blocks::erase_count;
+ghost use Rattle.flash.specs.Steps.{run, firstOf};
+ghost use Rattle.flash.specs.Writing.{EachInTurn, copying, erasesVictim};
+ghost use Rattle.flash.specs.Tables.{tableCopied};
 use flash::steps::erase_block;
-use flash::steps::program;
+use flash::steps::program_within;
 use geometry::Geometry;
 use image::Found;
 use image::Slot;
@@ -20,25 +19,36 @@ use tables::note;
 use tables::word_at;
 
 // Goes through the slots of block v and places the live ones in slots 0, 1, .. of block t. The number of a slot is found in that slot when
-// its turn comes, so it is not looked up again; it is noted where it is placed. Returns how many words were programmed.
-fn copy_live(image: &mut [u32], geo: Geometry, v: usize, t: usize, table: &mut [u16]) -> u32
+// its turn comes, so it is not looked up again; it is noted where it is placed. Returns how many steps are left of those that the call may do:
+// with none left it stops, and nothing is said of the table then.
+pub fn copy_live(
+    image: &mut [u32],
+    geo: Geometry,
+    v: usize,
+    t: usize,
+    table: &mut [u16],
+    most: u32,
+) -> u32
     requires { ⌜ Shaped geo (now image) ⌝ }
     requires { ⌜ v < geo .blocks ⌝ }
     requires { ⌜ t < geo .blocks ⌝ }
     requires { ⌜ EachInTurn geo (now image) v t ⌝ }
-    ensures { λ r. ⌜ r ≡ wordsIn (copying geo (now (image .entry)) v t (d geo) .steps) ⌝ }
-    ensures { λ r. ⌜ now (image .exit) ≡ run geo (now (image .entry)) (copying geo (now (image .entry)) v t (d geo) .steps) ⌝ }
-    ensures { λ r. ⌜ now (table .exit) ≡ tableCopied geo (now (image .entry)) v t (now (table .entry)) (d geo) ⌝ }
+    ensures { λ r. ⌜ r ≡ most - length (copying geo (now (image .entry)) v t (d geo) .steps) ⌝ }
+    ensures { λ _. ⌜ now (image .exit) ≡ run geo (now (image .entry)) (firstOf most (copying geo (now (image .entry)) v t (d geo) .steps)) ⌝ }
+    ensures { λ r. ⌜ ((r ≡ 0 → ⊥) → now (table .exit) ≡ tableCopied geo (now (image .entry)) v t (now (table .entry)) (d geo)) ⌝ }
 {
     let d = geo.d();
-    let mut words = 0u32;
+    let mut left = most;
     let mut taken = 0usize;
     for i in 0..d {
         match own_slot(image, geo, v, i) {
             Slot::Live(n) => {
                 let mut buffer = [0u32; 128];
                 copy_contents(image, geo, v, i, &mut buffer);
-                words += place_over(image, geo, n, &buffer, t, taken, Found::At(v, i));
+                left = place_over(image, geo, n, &buffer, t, taken, Found::At(v, i), left);
+                if left == 0 {
+                    return 0;
+                }
                 note(table, n, word_at(geo, t, taken));
                 taken += 1;
             }
@@ -48,25 +58,21 @@ fn copy_live(image: &mut [u32], geo: Geometry, v: usize, t: usize, table: &mut [
             Slot::Superseded => {}
         }
     }
-    words
+    left
 }
 
-// Reclaims block v into block t, the blank one: its live slots are placed there, and it is erased. Returns how many words were programmed.
-pub fn reclaim(image: &mut [u32], geo: Geometry, v: usize, t: usize, table: &mut [u16]) -> u32
+// Erases block v and gives it the count that follows this one, as two steps of those that are left. Returns how many are left then.
+pub fn erase_victim(image: &mut [u32], geo: Geometry, v: usize, count: u32, left: u32) -> u32
     requires { ⌜ Shaped geo (now image) ⌝ }
     requires { ⌜ v < geo .blocks ⌝ }
-    requires { ⌜ t < geo .blocks ⌝ }
-    requires { ⌜ t ≡ leastWornBlank geo (now image) ⌝ }
-    requires { ⌜ eraseCount geo (now image) v < ceiling ⌝ }
-    requires { ⌜ EachInTurn geo (now image) v t ⌝ }
-    ensures { λ r. ⌜ r ≡ wordsIn (reclaiming geo (now (image .entry)) v) ⌝ }
-    ensures { λ r. ⌜ now (image .exit) ≡ run geo (now (image .entry)) (reclaiming geo (now (image .entry)) v) ⌝ }
-    ensures { λ r. ⌜ now (table .exit) ≡ tableReclaimed geo (now (image .entry)) v (now (table .entry)) ⌝ }
+    requires { ⌜ count < ceiling ⌝ }
+    ensures { λ r. ⌜ r ≡ left - length (erasesVictim geo v count) ⌝ }
+    ensures { λ _. ⌜ now (image .exit) ≡ run geo (now (image .entry)) (firstOf left (erasesVictim geo v count)) ⌝ }
 {
+    if left == 0 {
+        return 0;
+    }
     let start = geo.start(v);
-    let count = erase_count(image, geo, v);
-    let words = copy_live(image, geo, v, t, table);
     erase_block(image, geo, v);
-    program(image, start, count + 1);
-    words + 1
+    program_within(image, start, count + 1, left - 1)
 }

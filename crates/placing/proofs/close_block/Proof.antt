@@ -1,6 +1,6 @@
 -- `placing::close_block` meets its contract: where no slot is free the block is full, and the two bounds are programmed.
 use mathlib.Core.List.{[], _∷_}
-use mathlib.Core.Path.{_≡_, refl, ap, _∙_}
+use mathlib.Core.Path.{_≡_, ap, _∙_}
 use Prim.Native.Nat.{_+_, _<_}
 use native.Mathlib.Omega.{arith}
 use lib.Dec.{eqb}
@@ -10,9 +10,9 @@ use borrow.Author.Tests.{eq-eqb, ne-eqb}
 use Rattle.image.specs.Blocks.{full}
 use Rattle.image.proofs.Reading.{block-room, full-first}
 use Rattle.flash.specs.declared.LiveBounds.{LiveBounds}
-use Rattle.flash.specs.Steps.{run, wordsIn}
 use Rattle.flash.specs.Placing.{closesBlock}
-use Rattle.flash.proofs.CodeLaws.{run-program, run-then}
+use Rattle.flash.proofs.Parts.{and-then}
+use Rattle.flash.proofs.CodeLaws.{program-carried, nothing-carried}
 use Rattle.placing.proofs.close_block.Statement.{statement}
 use Rattle.placing.proofs.close_block.Tie as tie
 
@@ -45,41 +45,40 @@ same-length : tie.Need-same-length
 same-length c = search needs
 
 returns : tie.Need-returns
-unfolding closesBlock run wordsIn
-returns c = rw (full-here (c .before) ∙ ne-eqb _ _ (c .if1 .taken)) (refl, refl)
+unfolding closesBlock
+returns c = rw (full-here (c .before) ∙ ne-eqb _ _ (c .if1 .taken)) (nothing-carried _ _ _)
 
 live-bounds-requires : tie.Need-live-bounds-requires
 live-bounds-requires c κs = search needs
 
-add-program : tie.Need-add-program
-add-program c = search needs
+add-program-within : tie.Need-add-program-within
+add-program-within c = search needs
 
-program-requires : tie.Need-program-requires
-program-requires c κs = omega (arith, inside (c .before .before .before .before .before .before .before))
+program-within-requires : tie.Need-program-within-requires
+program-within-requires c κs = omega (arith, inside (c .before .before .before .before .before .before .before))
 
-add-program-2 : tie.Need-add-program-2
-add-program-2 c = search needs
+add-program-within-2 : tie.Need-add-program-within-2
+add-program-within-2 c = search needs
 
-program-requires-2 : tie.Need-program-requires-2
-program-requires-2 c κs =
+program-within-requires-2 : tie.Need-program-within-requires-2
+program-within-requires-2 c κs =
     let first = c .before .before .before in
-    omega (arith, inside (first .before .before .before .before .before .before .before .before), first .program .kept .0)
+    omega (arith, inside (first .before .before .before .before .before .before .before .before), first .program-within .kept .0)
 
 same-length-2 : tie.Need-same-length-2
 same-length-2 c = search needs
 
 returns-2 : tie.Need-returns-2
-unfolding closesBlock wordsIn
+unfolding closesBlock
 returns-2 c =
     let first = c .before .before .before .before .before .before in
     let bounds = first .before .before in
     let other = bounds .before .before in
-    rw (full-here (other .before) ∙ eq-eqb _ _ (other .if1 .left)) (
-      refl,
-      run-then _ _ (_ ∷ []) (_ ∷ [])
-          (run-program _ _ (first .program .ensures) (omega arith) (ap (λ (r : LiveBounds). r .least) (bounds .live-bounds .ensures)))
-          (run-program _ _ (c .before .before .program2 .ensures) (omega arith) (ap (λ (r : LiveBounds). r .greatest) (bounds .live-bounds .ensures))),
-    )
+    rw (full-here (other .before) ∙ eq-eqb _ _ (other .if1 .left))
+    (and-then _ _ _ (_ ∷ [])
+    (program-carried _ _ _ (first .program-within .ensures) (omega arith) (ap (λ (r : LiveBounds). r .least) (bounds .live-bounds .ensures)))
+    (_ ∷ [])
+    (program-carried _ _ _ (c .before .before .program-within2 .ensures) (omega arith) (ap (λ (r : LiveBounds). r .greatest) (bounds .live-bounds .ensures))))
 
 pub close-block-spec : {M : Type 1} → statement M
 close-block-spec =
@@ -91,9 +90,9 @@ close-block-spec =
     same-length
     returns
     live-bounds-requires
-    add-program
-    program-requires
-    add-program-2
-    program-requires-2
+    add-program-within
+    program-within-requires
+    add-program-within-2
+    program-within-requires-2
     same-length-2
     returns-2)

@@ -9,7 +9,7 @@ use native.Mathlib.Omega.{arith}
 use native.Mathlib.Numerals.{add-one}
 use lib.ListN.{length}
 use borrow.Author.Needs.{needs}
-use Rattle.ranges.specs.Range.{anyBelow, bestBelow, firstBelow, lastBelow}
+use Rattle.ranges.specs.Range.{orAt, anyBelow, bestBelow, firstBelow, lastBelow}
 use Rattle.ranges.proofs.Tests.{any-ext}
 use Rattle.ranges.proofs.Searches.{best-le, best-ext, best-none}
 use Rattle.geometry.specs.Geometry.{d}
@@ -19,7 +19,7 @@ use Rattle.image.specs.Slots.{slot, isLiveFor, liveIn}
 use Rattle.image.proofs.Entries.{live-parts}
 use Rattle.image.proofs.Reading.{slotFrom, entry-inside, by-entry}
 use Rattle.flash.specs.Placing.{leastLive, greatestLive}
-use Rattle.placing.proofs.BoundLaws.{orAt, first-more, last-one, last-more}
+use Rattle.placing.proofs.BoundLaws.{first-more, last-one, last-more}
 use Rattle.placing.proofs.live_bounds.Statement.{statement}
 use Rattle.placing.proofs.live_bounds.Tie as tie
 

@@ -2,8 +2,7 @@
 use mathlib.Core.Path.{refl}
 use native.Mathlib.Omega.{arith}
 use borrow.Author.Needs.{needs}
-use Rattle.flash.specs.Steps.{run, wordsIn}
-use Rattle.flash.proofs.CodeLaws.{found-entry-inside, run-program}
+use Rattle.flash.proofs.CodeLaws.{found-entry-inside, program-carried, nothing-carried}
 use Rattle.placing.proofs.program_entry.Statement.{statement}
 use Rattle.placing.proofs.program_entry.Tie as tie
 
@@ -18,8 +17,8 @@ entries-start-requires c κs =
 add-at : tie.Need-add-at
 add-at c = omega (arith, found-entry-inside _ (c .before .before .before .before .before .pre) (c .before .before .found .given .1))
 
-program-requires : tie.Need-program-requires
-program-requires c κs =
+program-within-requires : tie.Need-program-within-requires
+program-within-requires c κs =
     omega (arith, found-entry-inside _ (c .before .before .before .before .before .before .pre) (c .before .before .before .found .given .1))
 
 enum-told : tie.Need-enum-told
@@ -29,14 +28,12 @@ same-length : tie.Need-same-length
 same-length c = search needs
 
 returns : tie.Need-returns
-unfolding wordsIn
 returns c =
     rw (c .before .before .before .before .before .before .found .given .1)
-    (refl, run-program _ _ (c .before .before .program .ensures) (omega arith) refl)
+    (program-carried _ _ _ (c .before .before .program-within .ensures) (omega arith) refl)
 
 returns-2 : tie.Need-returns-2
-unfolding run wordsIn
-returns-2 c = rw (c .enum-told .given .1) (refl, refl)
+returns-2 c = rw (c .enum-told .given .1) (nothing-carried _ _ _)
 
 pub program-entry-spec : {M : Type 1} → statement M
 program-entry-spec =
@@ -45,7 +42,7 @@ program-entry-spec =
     enum-known-found
     entries-start-requires
     add-at
-    program-requires
+    program-within-requires
     enum-told
     same-length
     returns

@@ -9,7 +9,7 @@ use Rattle.geometry.specs.Places.{place, mapWord}
 use Rattle.geometry.proofs.Laws.{map-covers}
 use Rattle.image.specs.Words.{word, freeMap}
 use Rattle.image.proofs.Reading.{map-inside}
-use Rattle.flash.proofs.CodeLaws.{run-program}
+use Rattle.flash.proofs.CodeLaws.{program-carried}
 use Rattle.placing.proofs.take_slot.Statement.{statement}
 use Rattle.placing.proofs.take_slot.Tie as tie
 
@@ -40,8 +40,8 @@ cast-clear-bit c = search needs
 clear-bit-requires : tie.Need-clear-bit-requires
 clear-bit-requires c κs = search needs
 
-program-requires : tie.Need-program-requires
-program-requires c κs = omega (arith, inside (c .before .before .before))
+program-within-requires : tie.Need-program-within-requires
+program-within-requires c κs = omega (arith, inside (c .before .before .before))
 
 same-length : tie.Need-same-length
 same-length c = search needs
@@ -52,7 +52,7 @@ returns c =
     let cleared-word = c .before .before .before in
     let start = cleared-word .before .before .before .before .before in
     let at : cleared-word .before .before .before .map-start .result + start .args .i / 32 ≡ place (start .args .geo) (start .args .b) (mapWord (start .args .i)) = omega arith in
-    run-program _ _ (c .before .before .program .ensures) at
+    program-carried _ _ _ (c .before .before .program-within .ensures) at
     (cleared-word .clear-bit .ensures ∙ ap (λ (p : ℕ). cleared (word (start .args .image .now) p) (start .args .i % 32)) at)
 
 pub take-slot-spec : {M : Type 1} → statement M
@@ -65,6 +65,6 @@ take-slot-spec =
     slice-read-word
     cast-clear-bit
     clear-bit-requires
-    program-requires
+    program-within-requires
     same-length
     returns)

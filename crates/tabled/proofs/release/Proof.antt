@@ -1,9 +1,10 @@
 -- `tabled::release` meets its contract: a table of another length is refused, and else it releases as the call without one.
+use mathlib.Core.Path.{refl}
 use native.Mathlib.Omega.{arith}
 use borrow.Author.Needs.{needs}
 use Rattle.calls.specs.Calls.{releaseSteps}
 use Rattle.tabled.specs.Calls.{releaseStepsWith, releaseTable}
-use Rattle.calls.proofs.Changing.{left-alone}
+use Rattle.calls.proofs.Changing.{by-number, left-alone}
 use Rattle.tabled.proofs.TableLaws.{lent-well, release-refused, release-alike}
 use Rattle.tabled.proofs.release.Statement.{statement}
 use Rattle.tabled.proofs.release.Tie as tie
@@ -30,7 +31,7 @@ returns c =
     let args = tested .before .before .before .before .before .before .args in
     let asked = tested .before .table-answer .ensures in
     let answer = release-refused (args .geo) (args .image .now) (args .table .now) asked (tested .number .ensures) (c .before .if1 .taken) (args .n) in
-    left-alone _ _ _ _ _ _ answer (omega (arith, tested .number .ensures, c .before .if1 .taken)) (c .refused .ensures)
+    left-alone _ _ _ _ _ _ (λ s. s) refl answer (by-number answer (omega (arith, tested .number .ensures, c .before .if1 .taken))) (c .refused .ensures)
 
 release-by-requires : tie.Need-release-by-requires
 release-by-requires c κs = search needs

@@ -1,9 +1,10 @@
 -- `tabled::write` meets its contract: a table of another length is refused, and else it writes as the call without one.
+use mathlib.Core.Path.{refl}
 use native.Mathlib.Omega.{arith}
 use borrow.Author.Needs.{needs}
 use Rattle.calls.specs.Calls.{writeSteps}
 use Rattle.tabled.specs.Calls.{writeStepsWith, writeTable}
-use Rattle.calls.proofs.Changing.{left-alone}
+use Rattle.calls.proofs.Changing.{by-number, left-alone}
 use Rattle.tabled.proofs.TableLaws.{lent-well, write-refused, write-alike}
 use Rattle.tabled.proofs.write.Statement.{statement}
 use Rattle.tabled.proofs.write.Tie as tie
@@ -30,7 +31,7 @@ returns c =
     let args = tested .before .before .before .before .before .before .before .args in
     let asked = tested .before .table-answer .ensures in
     let answer = write-refused (args .geo) (args .image .now) (args .table .now) asked (tested .number .ensures) (c .before .if1 .taken) (args .n) (args .buffer .now) in
-    left-alone _ _ _ _ _ _ answer (omega (arith, tested .number .ensures, c .before .if1 .taken)) (c .refused .ensures)
+    left-alone _ _ _ _ _ _ (λ s. s) refl answer (by-number answer (omega (arith, tested .number .ensures, c .before .if1 .taken))) (c .refused .ensures)
 
 write-by-requires : tie.Need-write-by-requires
 write-by-requires c κs = search needs

@@ -1,13 +1,14 @@
--- `writing::reclaiming::copy_live` meets its contract: after the slots passed the image, the words, the slots taken and the table are what
--- the definition's steps so far leave and count, and what it notes of them.
+-- `writing::reclaiming::copy_live` meets its contract: after the slots passed all the definition's steps so far are done, and some are
+-- left; it stops where none is.
 use mathlib.Core.Logic.{⊎-elim}
 use mathlib.Core.Bool.{true}
-use mathlib.Core.List.{List}
-use mathlib.Core.Path.{_≡_, refl, sym, _∙_}
+use mathlib.Core.List.{List, _++_}
+use mathlib.Core.Path.{_≡_, refl, sym, ap, _∙_}
 use Prim.Native.Nat.{ℕ, _+_, _-_, _≤_, _<_}
 use native.Mathlib.Omega.{arith}
 use native.Mathlib.Numerals.{add-one}
-use lib.ListN.{length}
+use lib.ListN.{length, length-append}
+use lib.Seq.{take-all}
 use borrow.Author.Needs.{needs}
 use Rattle.geometry.specs.declared.Geometry.{Geometry}
 use Rattle.geometry.specs.Geometry.{d}
@@ -20,28 +21,28 @@ use Rattle.image.specs.WellFormed.{sound}
 use Rattle.image.proofs.Own.{each-own, live-number}
 use Rattle.image.proofs.Facts.{sound-facts}
 use Rattle.tables.specs.Tables.{Table, noted, slotNoted}
-use Rattle.flash.specs.Steps.{run, wordsIn}
+use Rattle.flash.specs.Steps.{run}
 use Rattle.flash.specs.Placing.{placing}
 use Rattle.flash.specs.Writing.{EachInTurn, copiedSlot, copying}
 use Rattle.flash.specs.Tables.{tableCopied}
-use Rattle.flash.proofs.Stores.{run-append, words-append}
+use Rattle.flash.proofs.Parts.{Carried, and-then, stopped, passed}
+use Rattle.flash.proofs.Copies.{all-behind, copying-taken}
 use Rattle.flash.proofs.CodeLaws.{still-shaped}
-use Rattle.placing.proofs.BoundLaws.{placing-most, copying-most}
 use Rattle.writing.proofs.reclaiming.copy_live.Statement.{statement}
 use Rattle.writing.proofs.reclaiming.copy_live.Tie as tie
 
 -- how things stand after the first i slots of v
-record Copying (geo : Geometry) (image₀ : Image) (v t : ℕ) (table₀ : Table) (i : ℕ) (image : Image) (table : Table) (words taken : ℕ) : Type 0 where
+record Copying (geo : Geometry) (image₀ : Image) (v t : ℕ) (table₀ : Table) (i : ℕ) (image : Image) (table : Table) (most left taken : ℕ) : Type 0 where
   image-is : image ≡ run geo image₀ (copying geo image₀ v t i .steps)
-  words-is : words ≡ wordsIn (copying geo image₀ v t i .steps)
+  left-is : left + length (copying geo image₀ v t i .steps) ≡ most
   taken-is : taken ≡ copying geo image₀ v t i .taken
   table-is : table ≡ tableCopied geo image₀ v t table₀ i
   long : length image ≡ length image₀
   table-long : length table ≡ length table₀
 
 module _
-    {geo : Geometry} {image₀ : Image} {v t : ℕ} {table₀ : Table} {i : ℕ} {image : Image} {table : Table} {words taken : ℕ}
-    (before : Copying geo image₀ v t table₀ i image table words taken)
+    {geo : Geometry} {image₀ : Image} {v t : ℕ} {table₀ : Table} {i : ℕ} {image : Image} {table : Table} {most left taken : ℕ}
+    (before : Copying geo image₀ v t table₀ i image table most left taken)
   where
     -- one slot more, by what the image says of it now
     next : {s : Slot} → slot geo image v i ≡ s → copying geo image₀ v t (i + 1) ≡ copiedSlot geo image v t i (copying geo image₀ v t i) s
@@ -68,46 +69,64 @@ module _
       has-room {n} e = rw (before .taken-is, before .image-is) (turns .room-there i n l (rw (before .image-is) at e))
 
     -- a slot that changes nothing
-    passed :
+    unchanged :
         copying geo image₀ v t (i + 1) ≡ copying geo image₀ v t i →
         tableCopied geo image₀ v t table₀ (i + 1) ≡ table →
-        Copying geo image₀ v t table₀ (i + 1) image table words taken
-    passed e noted =
+        Copying geo image₀ v t table₀ (i + 1) image table most left taken
+    unchanged e noted =
         record {
           image-is = rw e (before .image-is);
-          words-is = rw e (before .words-is);
+          left-is = rw e (before .left-is);
           taken-is = rw e (before .taken-is);
           table-is = sym noted;
           long = before .long;
           table-long = before .table-long;
         }
 
-    -- a live slot, whose contents are ws
-    copied :
-        {n : ℕ} {ws : List ℕ} {image' : Image} {words' : ℕ} {table' : Table} →
-        slot geo image v i ≡ Live n →
-        ws ≡ contents geo image v i →
-        image' ≡ run geo image (placing geo image n ws t taken) →
-        words' ≡ wordsIn (placing geo image n ws t taken) →
-        length image' ≡ length image →
-        table' ≡ noted geo table n (At t taken) →
-        length table' ≡ length table →
-        Copying geo image₀ v t table₀ (i + 1) image' table' (words + words') (taken + 1)
-    copied {n} {ws} e same placed counted kept marked still =
-        record {
-          image-is = rw (next e, run-append, ← before .image-is, ← before .taken-is, ← same) placed;
-          words-is = rw (next e, words-append, ← before .words-is, ← before .taken-is, ← same, ← counted);
-          taken-is = rw (next e, ← before .taken-is, add-one);
-          table-is = marked ∙ sym (next-table e);
-          long = kept ∙ before .long;
-          table-long = still ∙ before .table-long;
-        }
+    -- a live slot, whose contents are ws: the definition's steps up to it
+    module _ {n : ℕ} {ws : List ℕ} (e : slot geo image v i ≡ Live n) (same : ws ≡ contents geo image v i) where
+      with-it : copying geo image₀ v t (i + 1) .steps ≡ copying geo image₀ v t i .steps ++ placing geo image n ws t taken
+      with-it = rw (next e, ← before .taken-is, ← same)
+
+      module _ {image' : Image} {left' : ℕ} (placed : Carried geo image left (placing geo image n ws t taken) left' image') where
+        -- they are carried out as far as there are steps left
+        so-far : Carried geo image₀ most (copying geo image₀ v t (i + 1) .steps) left' image'
+        so-far =
+            let long = length-append (copying geo image₀ v t i .steps) (placing geo image n ws t taken) in
+            rw with-it
+            (and-then geo image₀ most (copying geo image₀ v t i .steps)
+            (omega (arith, before .left-is), before .image-is ∙ ap (run geo image₀) (sym (take-all most (copying geo image₀ v t i .steps) (omega (arith, before .left-is)))))
+            (placing geo image n ws t taken)
+            placed)
+
+        -- where none is left, nothing of the later slots is
+        ended : left' ≡ 0 → (e : ℕ) → i + 1 ≤ e → Carried geo image₀ most (copying geo image₀ v t e .steps) 0 image'
+        ended none e l =
+            let rest = all-behind geo image₀ v t (i + 1) e l in
+            rw (rest .1) (stopped geo image₀ most _ so-far none (rest .0))
+
+        copied :
+            {table' : Table} →
+            (left' ≡ 0 → ⊥) →
+            length image' ≡ length image →
+            table' ≡ noted geo table n (At t taken) →
+            length table' ≡ length table →
+            Copying geo image₀ v t table₀ (i + 1) image' table' most left' (taken + 1)
+        copied some kept marked still =
+            record {
+              image-is = passed geo image₀ most (copying geo image₀ v t (i + 1) .steps) so-far some;
+              left-is = omega (arith, so-far .0, some);
+              taken-is = rw (next e, ← before .taken-is, add-one);
+              table-is = marked ∙ sym (next-table e);
+              long = kept ∙ before .long;
+              table-long = still ∙ before .table-long;
+            }
 
 abbrev Inv-loop : tie.InvT-loop
-Inv-loop image₀ geo v t table₀ d words₀ taken₀ i₀ image table words taken i = (i ≤ d) × Copying geo image₀ v t table₀ i image table words taken
+Inv-loop image₀ geo v t table₀ most d left₀ taken₀ i₀ image table left taken i = (i ≤ d) × Copying geo image₀ v t table₀ i image table most left taken
 
 abbrev μ-loop : tie.MeasureT-loop
-μ-loop image₀ geo v t table₀ d words₀ taken₀ i₀ image table words taken i = d - i
+μ-loop image₀ geo v t table₀ most d left₀ taken₀ i₀ image table left taken i = d - i
 
 -- the image keeps its shape
 shaped : (c : tie.At-loop Inv-loop μ-loop) → Shaped (c .before .before .before .before .args .geo) (c .loop .image)
@@ -117,11 +136,7 @@ shaped c = still-shaped _ (c .before .before .before .before .pre .0) (c .loop .
 room : (c : tie.At-loop Inv-loop μ-loop) → c .loop .taken ≤ c .loop .i
 room c =
     let a = c .before .before .before .before .args in
-    omega (arith, c .loop .inv .1 .taken-is, copying-most (a .geo) (a .image .now) (a .v) (a .t) (c .loop .i) .1)
-
--- the words of one placing are few, whichever the slot
-few : (geo : Geometry) (image : Image) (n : ℕ) (ws : List ℕ) (b i words : ℕ) → words ≡ wordsIn (placing geo image n ws b i) → words ≤ 135
-few geo image n ws b i words e = omega (arith, placing-most geo image n ws b i)
+    omega (arith, c .loop .inv .1 .taken-is, copying-taken (a .geo) (a .image .now) (a .v) (a .t) (c .loop .i))
 
 -- the slot of this turn is live for the number that the code found in it
 live : (c : tie.After-n Inv-loop μ-loop) →
@@ -137,9 +152,9 @@ d-requires : tie.Need-d-requires Inv-loop μ-loop
 d-requires c κs = search needs
 
 loop-holds : tie.Need-loop-holds Inv-loop μ-loop
-unfolding copying tableCopied run wordsIn
+unfolding copying tableCopied run
 loop-holds c =
-    (omega arith, record { image-is = refl; words-is = refl; taken-is = refl; table-is = refl; long = refl; table-long = refl })
+    (omega arith, record { image-is = refl; left-is = omega arith; taken-is = refl; table-is = refl; long = refl; table-long = refl })
 
 own-slot-requires : tie.Need-own-slot-requires Inv-loop μ-loop
 own-slot-requires c κs = (shaped (c .before .before), omega arith)
@@ -177,28 +192,38 @@ place-over-requires c κs =
       ),
     )
 
-add-words : tie.Need-add-words Inv-loop μ-loop
-add-words c =
-    let placed = c .before .before in
-    let turn = placed .before .before .before .before .before .before .before .before .before .before .before .before .before in
-    let start = turn .before .before .before .before in
-    let a = start .args in
-    omega (
-      arith,
-      start .pre .0 .limits,
-      turn .loop .inv .1 .words-is,
-      copying-most (a .geo) (a .image .now) (a .v) (a .t) (turn .loop .i) .0,
-      few _ _ _ _ _ _ _ (placed .place-over .ensures .0),
-    )
+-- the turn of a placing
+abbrev turning : tie.After-place-over Inv-loop μ-loop → tie.At-loop Inv-loop μ-loop
+turning c = c .before .before .before .before .before .before .before .before .before .before .before .before .before
+
+same-length : tie.Need-same-length Inv-loop μ-loop
+same-length c =
+    let placed = c .before .before .before in
+    placed .place-over .kept .0 ∙ turning placed .loop .inv .1 .long
+
+same-length-2 : tie.Need-same-length-2 Inv-loop μ-loop
+same-length-2 c = turning (c .before .before .before) .loop .inv .1 .table-long
+
+returns : tie.Need-returns Inv-loop μ-loop
+returns c =
+    let placed = c .before .before .before in
+    let buffer = placed .before .before .before .before in
+    let known = buffer .before .before .before .before in
+    let turn = turning placed in
+    let inside = known .before .before .before .before .loop-test .taken in
+    let done =
+    ended (turn .loop .inv .1) (live known) (buffer .copy-contents .ensures) (placed .place-over .ensures)
+    (c .if1 .taken) (d (turn .before .before .before .before .args .geo)) (omega (arith, inside, turn .before .d .ensures)) in
+    (done .0, (done .1, λ some. absurd (some refl)))
 
 -- the slot that was taken is one of its block, so it has a word
 word-at-requires : tie.Need-word-at-requires Inv-loop μ-loop
 word-at-requires c κs =
-    let passed = c .before .before .before .before .before .before .before .before .before .before .before .before .before .before .before in
-    let turn = passed .before in
+    let inside = c .before .before .before .before .before .before .before .before .before .before .before .before .before .before .before .before in
+    let turn = inside .before in
     let start = turn .before .before .before .before in (
       start .pre .0 .limits,
-      (omega (arith, start .pre .1 .0, start .pre .1 .1 .0), omega (arith, room turn, passed .loop-test .taken, turn .before .d .ensures)),
+      (omega (arith, start .pre .1 .0, start .pre .1 .1 .0), omega (arith, room turn, inside .loop-test .taken, turn .before .d .ensures)),
     )
 
 note-requires : tie.Need-note-requires Inv-loop μ-loop
@@ -206,7 +231,7 @@ note-requires c κs = search needs
 
 add-taken : tie.Need-add-taken Inv-loop μ-loop
 add-taken c =
-    omega (arith, room (c .before .before .before .before .before .before .before .before .before .before .before .before .before .before .before .before .before .before .before .before))
+    omega (arith, room (c .before .before .before .before .before .before .before .before .before .before .before .before .before .before .before .before .before .before .before .before .before))
 
 enum-told : tie.Need-enum-told Inv-loop μ-loop
 enum-told c = search needs
@@ -235,31 +260,37 @@ loop-again c =
       omega arith,
       ⊎-elim
           (λ w.
-          rw (w .17, w .18, w .19, w .20)
-          (copied v (this ∙ w .1 .given .1) (w .5 .ensures) (w .9 .ensures .1) (w .9 .ensures .0) (w .9 .kept .0)
-          (rw (w .13 .ensures) at (w .14 .ensures)) (w .14 .kept .0)))
+          rw (w .18, w .19, w .20, w .21)
+          (copied v (this ∙ w .1 .given .1) (w .5 .ensures) (w .9 .ensures) (w .12 .left) (w .9 .kept .0)
+          (rw (w .14 .ensures) at (w .15 .ensures)) (w .15 .kept .0)))
           (⊎-elim
-          (λ w. rw (w .2, w .3, w .4, w .5) (passed v (next v (this ∙ w .1 .given .1)) (next-table v (this ∙ w .1 .given .1))))
+          (λ w. rw (w .2, w .3, w .4, w .5) (unchanged v (next v (this ∙ w .1 .given .1)) (next-table v (this ∙ w .1 .given .1))))
           (⊎-elim
-          (λ w. rw (w .2, w .3, w .4, w .5) (passed v (next v (this ∙ w .1 .given .1)) (next-table v (this ∙ w .1 .given .1))))
+          (λ w. rw (w .2, w .3, w .4, w .5) (unchanged v (next v (this ∙ w .1 .given .1)) (next-table v (this ∙ w .1 .given .1))))
           (⊎-elim
-          (λ w. rw (w .2, w .3, w .4, w .5) (passed v (next v (this ∙ w .1 .given .1)) (next-table v (this ∙ w .1 .given .1))))
-          (λ w. rw (w .2, w .3, w .4, w .5) (passed v (next v (this ∙ w .1 .given .1)) (next-table v (this ∙ w .1 .given .1)))))))
+          (λ w. rw (w .2, w .3, w .4, w .5) (unchanged v (next v (this ∙ w .1 .given .1)) (next-table v (this ∙ w .1 .given .1))))
+          (λ w. rw (w .2, w .3, w .4, w .5) (unchanged v (next v (this ∙ w .1 .given .1)) (next-table v (this ∙ w .1 .given .1)))))))
           (c .match .came),
     )
 
-same-length : tie.Need-same-length Inv-loop μ-loop
-same-length c = c .before .loop .inv .1 .long
+same-length-3 : tie.Need-same-length-3 Inv-loop μ-loop
+same-length-3 c = c .before .loop .inv .1 .long
 
-same-length-2 : tie.Need-same-length-2 Inv-loop μ-loop
-same-length-2 c = c .before .loop .inv .1 .table-long
+same-length-4 : tie.Need-same-length-4 Inv-loop μ-loop
+same-length-4 c = c .before .loop .inv .1 .table-long
 
-returns : tie.Need-returns Inv-loop μ-loop
-returns c =
-    let geo = c .before .before .before .before .before .args .geo in
+returns-2 : tie.Need-returns-2 Inv-loop μ-loop
+returns-2 c =
+    let a = c .before .before .before .before .before .args in
     let v = c .before .loop .inv .1 in
-    let end : c .before .loop .i ≡ d geo = omega arith in
-    (rw end at (v .words-is), (rw end at (v .image-is), rw end at (v .table-is)))
+    let end : c .before .loop .i ≡ d (a .geo) = omega arith in
+    let steps = copying (a .geo) (a .image .now) (a .v) (a .t) (d (a .geo)) .steps in (
+      omega (arith, rw end at (v .left-is)),
+      (
+        rw end at (v .image-is) ∙ ap (run (a .geo) (a .image .now)) (sym (take-all (a .most) steps (omega (arith, rw end at (v .left-is))))),
+        λ some. rw end at (v .table-is),
+      ),
+    )
 
 pub copy-live-spec : {M : Type 1} → statement M
 copy-live-spec =
@@ -275,7 +306,9 @@ copy-live-spec =
     copy-contents-requires
     slice-aggregate-place-over
     place-over-requires
-    add-words
+    same-length
+    same-length-2
+    returns
     word-at-requires
     note-requires
     add-taken
@@ -286,6 +319,6 @@ copy-live-spec =
     add-i
     loop-less
     loop-again
-    same-length
-    same-length-2
-    returns)
+    same-length-3
+    same-length-4
+    returns-2)

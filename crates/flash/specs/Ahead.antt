@@ -1,0 +1,121 @@
+-- K4: a placing, and the placings of a reclaim, as they are known before the first step of the call, so that one step of it can be told without
+-- carrying out those before it (FORMAT.md, Step by step). That these are the steps of the definitions is proved (proofs/Ahead, Copies and LastPlacing).
+use mathlib.Core.Bool.{Bool, false, cond, _&&_, _||_}
+use mathlib.Core.List.{List, [], _∷_, _++_}
+use Prim.Native.Nat.{ℕ, _+_, _-_, _%_, _^_}
+use lib.Dec.{ltb, eqb}
+use Rattle.ranges.specs.Range.{orAt, countBelow, firstBelow, lastBelow}
+use Rattle.bits.specs.Word.{cleared}
+use Rattle.geometry.specs.declared.Geometry.{Geometry}
+use Rattle.geometry.specs.Geometry.{d}
+use Rattle.geometry.specs.Places.{place, mapWord}
+use Rattle.image.specs.declared.Found.{Found}
+use Rattle.image.specs.declared.Found.the-variants.{At, Nothing}
+use Rattle.image.specs.Words.{Image, eraseCount, freeMap, entry}
+use Rattle.image.specs.Slots.{validBit, currentBit, slot, isLive, find, liveIn}
+use Rattle.image.specs.Blocks.{freeSlots, liveSlots}
+use Rattle.flash.specs.declared.LiveBounds.{LiveBounds}
+use Rattle.flash.specs.declared.Placement.{Placement}
+use Rattle.flash.specs.declared.Step.{Step}
+use Rattle.flash.specs.declared.Step.the-variants.{Program}
+use Rattle.flash.specs.Placing.{entryAt, programsEntry, programsBounds, storesContents, beginsEntry, completesEntry}
+
+-- the map word of slot i with it taken, in a block whose slots before i are taken and whose others are free
+abbrev pub takenUpTo : ℕ → ℕ
+takenUpTo i = cleared (2 ^ 32 - 2 ^ (i % 32)) (i % 32)
+
+module _ (geo : Geometry) where
+  -- (g) of a placing that is known beforehand
+  abbrev pub closesWith : Placement → List Step
+  closesWith p = cond (p .closes) (programsBounds geo (p .block) (p .bounds .least) (p .bounds .greatest)) []
+
+  -- behind the contents: (d) to (g)
+  abbrev pub behindContents : Placement → List Step
+  behindContents p =
+      beginsEntry geo (p .block) (p .slot) (p .number)
+      ++ (completesEntry geo (p .block) (p .slot) (p .number)
+      ++ (programsEntry geo (p .old) (cleared (cleared (p .entry) currentBit) validBit)
+      ++ closesWith p))
+
+  -- from the contents on: (c) to (g)
+  abbrev pub fromContents : Placement → List ℕ → List Step
+  fromContents p ws = storesContents geo (p .block) (p .slot) ws ++ behindContents p
+
+  -- (a) to (g) of one, with the contents ws
+  unfoldable pub placementSteps : Placement → List ℕ → List Step
+  placementSteps p ws =
+      (Program (place geo (p .block) (mapWord (p .slot))) (p .map) ∷ [])
+      ++ (programsEntry geo (p .old) (cleared (p .entry) currentBit)
+      ++ fromContents p ws)
+
+  -- the least and the greatest number live in block b, with n as one of them
+  abbrev pub boundsWith : Image → ℕ → ℕ → LiveBounds
+  boundsWith image b n =
+      record {
+        least = firstBelow (geo .logical) (orAt (liveIn geo image b) n);
+        greatest = lastBelow (geo .logical) (orAt (liveIn geo image b) n);
+      }
+
+  -- the placing of n, found at old, in slot i of block b: the block is full then if it has one free slot now
+  abbrev pub placementOver : Image → ℕ → Found → ℕ → ℕ → Placement
+  placementOver image n old b i =
+      record {
+        number = n;
+        block = b;
+        slot = i;
+        map = cleared (freeMap geo image b i) (i % 32);
+        old = old;
+        entry = entryAt geo image old;
+        closes = eqb (freeSlots geo image b) 1;
+        bounds = boundsWith image b n;
+      }
+
+  -- how many of the first m slots of v are live: the slot of the blank block that slot m goes to in a reclaim of v
+  abbrev pub liveBefore : Image → ℕ → ℕ → ℕ
+  liveBefore image v m = countBelow m (λ i. isLive (slot geo image v i))
+
+  -- in a reclaim of v into t, the copying of slot m of v, which is live for n: t is never full by it
+  abbrev pub copyPlacement : Image → ℕ → ℕ → ℕ → ℕ → Placement
+  copyPlacement image v t m n =
+      record {
+        number = n;
+        block = t;
+        slot = liveBefore image v m;
+        map = takenUpTo (liveBefore image v m);
+        old = At v m;
+        entry = entry geo image v m;
+        closes = false;
+        bounds = record { least = 0; greatest = 0 };
+      }
+
+  -- the place of a number, and its entry there, when v is reclaimed into t
+  abbrev pub movedTo : Image → ℕ → ℕ → Found → Found
+  movedTo image v t (At b i) = cond (eqb b v) (At t (liveBefore image v i)) (At b i)
+  movedTo image v t Nothing = Nothing
+
+  abbrev pub movedEntry : Image → ℕ → ℕ → Found → ℕ
+  movedEntry image v n (At b i) = cond (eqb b v) (0xC0000000 + n) (entry geo image b i)
+  movedEntry image v n Nothing = 0
+
+  -- the block that the write then goes to: t behind the copies; and where none was made the less worn of the two blank ones, v with its new count,
+  -- the lower among equals
+  abbrev pub victimFirst : Image → ℕ → ℕ → Bool
+  victimFirst image v t =
+      ltb (eraseCount geo image v + 1) (eraseCount geo image t) || eqb (eraseCount geo image v + 1) (eraseCount geo image t) && ltb v t
+
+  abbrev pub blockAfter : Image → ℕ → ℕ → ℕ
+  blockAfter image v t = cond (eqb (liveSlots geo image v) 0 && victimFirst image v t) v t
+
+  -- the placing of n that ends a write with a reclaim of v into t
+  abbrev pub lastPlacement : Image → ℕ → ℕ → ℕ → Placement
+  lastPlacement image v t n =
+      record {
+        number = n;
+        block = blockAfter image v t;
+        slot = liveSlots geo image v;
+        map = takenUpTo (liveSlots geo image v);
+        old = movedTo image v t (find geo image n);
+        entry = movedEntry image v n (find geo image n);
+        closes = eqb (liveSlots geo image v + 1) (d geo);
+        bounds = boundsWith image v n;
+      }
