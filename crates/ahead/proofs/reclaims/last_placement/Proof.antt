@@ -44,7 +44,7 @@ moved-to-requires c κs =
     let found = c .before .before in
     let start = found .before .before .before .before in
     let inside = found-inside (start .args .geo) (start .args .image .now) (start .args .n) (found .find .ensures) in
-    (start .pre .0, (start .pre .1 .0, (start .pre .1 .1 .0, inside)))
+    (start .pre .0, (start .pre .1 .0, (omega (arith, start .pre .1 .1 .0, start .pre .1 .1 .1 .0), inside)))
 
 moved-entry-requires : tie.Need-moved-entry-requires
 moved-entry-requires c κs =
