@@ -609,28 +609,43 @@ static void tell_step(const struct run *run, uint32_t *kind, uint32_t *place,
 
 /* ---- Write ------------------------------------------------------------- */
 
-/* Step (g): to be done when the new entry is live and the old one is not. */
-static void program_range(struct run *run, uint32_t block)
+struct range {
+    uint32_t least;
+    uint32_t greatest;
+};
+
+/* Of the numbers live in the block; 0 and 0 if there is none.  In an image
+ * with a superseded slot it is not to be asked. */
+static struct range live_range(struct second_geometry g,
+                               const uint32_t *image, uint32_t block)
 {
-    struct second_geometry g = run->g;
-    const uint32_t *entries =
-        run->image + entry_place(g, (struct spot){block, 0});
+    const uint32_t *entries = image + entry_place(g, (struct spot){block, 0});
     uint32_t slots = second_slots(g);
-    uint32_t least = ONES;
-    uint32_t greatest = 0;
+    struct range live = {0, 0};
+    bool any = false;
 
     for (uint32_t slot = 0; slot < slots; slot++) {
         if (is_live(g, entries[slot])) {
             uint32_t number = number_of(entries[slot]);
 
-            if (number < least)
-                least = number;
-            if (number > greatest)
-                greatest = number;
+            if (!any || number < live.least)
+                live.least = number;
+            if (!any || number > live.greatest)
+                live.greatest = number;
+            any = true;
         }
     }
-    program(run, block_place(g, block) + LEAST_MAPPED, least);
-    program(run, block_place(g, block) + GREATEST_MAPPED, greatest);
+    return live;
+}
+
+/* Step (g): to be done when the new entry is live and the old one is not. */
+static void program_range(struct run *run, uint32_t block)
+{
+    struct range live = live_range(run->g, run->image, block);
+    size_t head = block_place(run->g, block);
+
+    program(run, head + LEAST_MAPPED, live.least);
+    program(run, head + GREATEST_MAPPED, live.greatest);
 }
 
 /* No entry has its place here: word 0 of an image is an erase count. */
@@ -695,7 +710,7 @@ static struct survey survey_blocks(struct second_geometry g,
 }
 
 /* Full block with most dead slots, least erase count, lowest number.  Asked
- * only when all blocks but one are full, so there is one. */
+ * only where a block is full and no slot is superseded. */
 static uint32_t choose_victim(struct second_geometry g, const uint32_t *image)
 {
     uint32_t victim = 0;
@@ -721,10 +736,10 @@ static uint32_t choose_victim(struct second_geometry g, const uint32_t *image)
     return victim;
 }
 
-/* Moves the victim's live slots to the blank block, then erases the victim.
- * The blank block keeps a free slot: L is below the slots of the full blocks,
- * so the victim has a dead one. */
-static void reclaim(struct run *run, uint32_t victim, uint32_t blank,
+/* Moves the victim's live slots to the target, then erases the victim.  The
+ * target has a free slot for each of them; if there are none to move it may be
+ * any block.  A blank one is so taken from slot 0 on. */
+static void reclaim(struct run *run, uint32_t victim, uint32_t target,
                     uint16_t *table)
 {
     struct second_geometry g = run->g;
@@ -732,18 +747,17 @@ static void reclaim(struct run *run, uint32_t victim, uint32_t blank,
     size_t count_place = block_place(g, victim) + ERASE_COUNT;
     uint32_t count = image[count_place];
     uint32_t slots = second_slots(g);
-    struct spot to = {blank, 0};
 
     for (uint32_t slot = 0; slot < slots; slot++) {
         struct spot from = {victim, slot};
         size_t old = entry_place(g, from);
 
         if (is_live(g, image[old])) {
+            struct spot to = {target, lowest_free_slot(g, image, target)};
             uint32_t number = number_of(image[old]);
 
             place_number(run, to, number, image + content_place(g, from), old);
             note(table, number, table_word(g, to));
-            to.slot++;
         }
     }
     erase(run, victim);
@@ -766,6 +780,8 @@ static uint32_t write_number(struct run *run, uint32_t number,
 
         if (image[block_place(g, victim) + ERASE_COUNT] == SECOND_CEILING)
             return SECOND_WORN_OUT;
+        /* It keeps a free slot: L is below the slots of the full blocks, so
+         * the victim has a dead one. */
         reclaim(run, victim, seen.best_blank, table);
         seen = survey_blocks(g, image);
     }
@@ -950,6 +966,244 @@ uint32_t second_release_first(uint32_t blocks, uint32_t sectors,
     }
     tell_counts(&run, words, erasures);
     return answer;
+}
+
+/* ---- Repair ------------------------------------------------------------ */
+
+/* R7 of a full block but for what (ii) programs: each of the two words is all
+ * ones, or no live number of the block lies beyond it. */
+static bool range_mendable(const uint32_t *head, const struct findings *found)
+{
+    uint32_t least = head[LEAST_MAPPED];
+    uint32_t greatest = head[GREATEST_MAPPED];
+
+    return found->free_slots == 0u &&
+           (least == ONES || least <= found->least) &&
+           (greatest == ONES || found->greatest <= greatest);
+}
+
+/* The block breaks no rule, or only in ways that (i), (ii) and (iii) mend. */
+static bool block_mendable(struct second_geometry g, const uint32_t *head,
+                           const struct findings *found)
+{
+    uint32_t mended = RULE(8); /* (i) */
+
+    if (range_mendable(head, found))
+        mended |= RULE(7); /* (ii) */
+    if (found->free_slots == second_slots(g) && head[ERASE_COUNT] == ONES)
+        mended |= RULE(1); /* (iii) */
+    return (found->broken & ~mended) == 0u;
+}
+
+/* No fault but K4's four.  R6 is not asked, since (iv) sees to it; whether it
+ * can is a matter for 10 and 6. */
+static bool mendable(struct second_geometry g, const uint32_t *image)
+{
+    struct marks marks = {{0}, {0}};
+    uint32_t without_count = 0;
+
+    mark_complete(g, image, marks.complete);
+    for (uint32_t block = 0; block < g.blocks; block++) {
+        const uint32_t *head = image + block_place(g, block);
+        struct findings found = inspect_block(g, head, &marks);
+
+        if (!block_mendable(g, head, &found))
+            return false;
+        without_count += head[ERASE_COUNT] == ONES ? 1u : 0u;
+    }
+    /* A cut behind an erase leaves one of them, and no call leaves two. */
+    return without_count <= 1u;
+}
+
+/* (i).  It clears no complete entry, so what was superseded before the first
+ * of its steps still is at its turn. */
+static void clear_superseded(struct run *run)
+{
+    struct second_geometry g = run->g;
+    uint32_t complete[MARK_WORDS] = {0};
+    struct spot at;
+
+    mark_complete(g, run->image, complete);
+    for (at.block = 0; at.block < g.blocks; at.block++)
+        for (at.slot = 0; at.slot < second_slots(g); at.slot++) {
+            size_t place = entry_place(g, at);
+            uint32_t entry = run->image[place];
+
+            if (is_passing(g, entry) && marked(complete, number_of(entry)))
+                program(run, place, entry & ~VALID_BIT);
+        }
+}
+
+/* (ii).  Comes after (i), so that live_range may be asked. */
+static void program_missing_ranges(struct run *run)
+{
+    struct second_geometry g = run->g;
+
+    for (uint32_t block = 0; block < g.blocks; block++) {
+        size_t head = block_place(g, block);
+        struct range live;
+
+        if (free_slots_of(g, run->image, block) > 0u)
+            continue;
+        live = live_range(g, run->image, block);
+        if (run->image[head + LEAST_MAPPED] == ONES)
+            program(run, head + LEAST_MAPPED, live.least);
+        if (run->image[head + GREATEST_MAPPED] == ONES)
+            program(run, head + GREATEST_MAPPED, live.greatest);
+    }
+}
+
+static uint32_t largest_count_beside(struct second_geometry g,
+                                     const uint32_t *image, uint32_t beside)
+{
+    uint32_t largest = 0;
+
+    for (uint32_t block = 0; block < g.blocks; block++) {
+        uint32_t count = image[block_place(g, block) + ERASE_COUNT];
+
+        if (block != beside && count > largest)
+            largest = count;
+    }
+    return largest;
+}
+
+/* (iii).  In a mendable image only a blank block can be without a count, and
+ * only one. */
+static void program_missing_count(struct run *run)
+{
+    struct second_geometry g = run->g;
+
+    for (uint32_t block = 0; block < g.blocks; block++) {
+        size_t place = block_place(g, block) + ERASE_COUNT;
+
+        if (run->image[place] == ONES)
+            program(run, place, largest_count_beside(g, run->image, block));
+    }
+}
+
+/* Settled before the first step, since a refusal must not come behind one. */
+struct plan {
+    uint32_t answer;
+    bool reclaims; /* (iv) has work to do, with these two blocks */
+    uint32_t victim;
+    uint32_t target;
+};
+
+/* For a mendable image.  (iv) goes by the slots as (i) leaves them, so (i) is
+ * carried out on a copy and the copy looked at. */
+static struct plan plan_repair(struct second_geometry g,
+                               const uint32_t *image)
+{
+    struct run ahead = run_aside(g, image);
+    struct plan plan = {SECOND_OK, false, 0, 0};
+    struct survey seen;
+    uint32_t room;
+
+    clear_superseded(&ahead);
+    seen = survey_blocks(g, ahead.image);
+    if (seen.blank_blocks > 0u)
+        return plan;
+
+    plan.answer = SECOND_NO_ROOM;
+    if (seen.open_blocks == g.blocks) /* no block is full */
+        return plan;
+    plan.victim = choose_victim(g, ahead.image);
+    plan.target = seen.first_open;
+    room = seen.open_blocks == 0u
+               ? 0u : free_slots_of(g, ahead.image, plan.target);
+    if (room < live_slots_of(g, ahead.image, plan.victim))
+        return plan;
+
+    plan.answer = SECOND_WORN_OUT;
+    if (image[block_place(g, plan.victim) + ERASE_COUNT] == SECOND_CEILING)
+        return plan;
+
+    plan.answer = SECOND_OK;
+    plan.reclaims = true;
+    return plan;
+}
+
+/* 1, 4, 10 and 6, or how to go about it.  The pair beside a 4 is the check's:
+ * the image's first fault, even if that one could be mended. */
+static struct plan repair_plan(struct second_geometry g,
+                               const uint32_t *image, size_t image_words,
+                               uint32_t *bad_block, uint32_t *bad_rule)
+{
+    *bad_block = 0;
+    *bad_rule = 0;
+    if (!image_fits(g, image_words))
+        return (struct plan){.answer = SECOND_BAD_GEOMETRY};
+    if (!mendable(g, image)) {
+        (void)well_formed(g, image, bad_block, bad_rule);
+        return (struct plan){.answer = SECOND_BAD_IMAGE};
+    }
+    return plan_repair(g, image);
+}
+
+/* The steps of a repair that is not refused. */
+static void mend(struct run *run, struct plan plan)
+{
+    clear_superseded(run);       /* (i) */
+    program_missing_ranges(run); /* (ii) */
+    program_missing_count(run);  /* (iii) */
+    if (plan.reclaims)           /* (iv) */
+        reclaim(run, plan.victim, plan.target, NO_TABLE);
+}
+
+uint32_t second_repair(uint32_t blocks, uint32_t sectors, uint32_t logical,
+                       uint32_t *image, size_t image_words,
+                       uint32_t *words, uint32_t *erasures,
+                       uint32_t *bad_block, uint32_t *bad_rule)
+{
+    struct second_geometry g = {blocks, sectors, logical};
+    struct run run = whole_run(g, image);
+    struct plan plan = repair_plan(g, image, image_words, bad_block, bad_rule);
+
+    if (plan.answer == SECOND_OK)
+        mend(&run, plan);
+    tell_counts(&run, words, erasures);
+    return plan.answer;
+}
+
+uint32_t second_repair_step(uint32_t blocks, uint32_t sectors,
+                            uint32_t logical,
+                            const uint32_t *image, size_t image_words,
+                            uint32_t step,
+                            uint32_t *kind, uint32_t *place, uint32_t *word,
+                            uint32_t *bad_block, uint32_t *bad_rule)
+{
+    struct second_geometry g = {blocks, sectors, logical};
+    struct run run = {.found = {SECOND_DONE, 0, 0}};
+    struct plan plan = repair_plan(g, image, image_words, bad_block, bad_rule);
+
+    if (plan.answer == SECOND_OK) {
+        run = run_aside(g, image);
+        run.sought = step;
+        mend(&run, plan);
+    }
+    tell_step(&run, kind, place, word);
+    return plan.answer;
+}
+
+uint32_t second_repair_first(uint32_t blocks, uint32_t sectors,
+                             uint32_t logical,
+                             uint32_t *image, size_t image_words,
+                             uint32_t most,
+                             uint32_t *words, uint32_t *erasures,
+                             uint32_t *bad_block, uint32_t *bad_rule)
+{
+    struct second_geometry g = {blocks, sectors, logical};
+    struct run run = {.words = 0, .erasures = 0};
+    struct plan plan = repair_plan(g, image, image_words, bad_block, bad_rule);
+
+    if (plan.answer == SECOND_OK) {
+        run = run_aside(g, image);
+        run.lent = image;
+        run.most = most;
+        mend(&run, plan);
+    }
+    tell_counts(&run, words, erasures);
+    return plan.answer;
 }
 
 /* ---- The other calls --------------------------------------------------- */

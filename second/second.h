@@ -52,8 +52,27 @@
  * second_write_first and second_release_first take the steps in their order
  * but no more than `most` of them, count those, and leave the image as it is
  * then, which need not be a sound one.  All four refuse what the whole call
- * refuses, however few steps are asked for.  They share a scratch image, so no
- * two of them may run at the same time. */
+ * refuses, however few steps are asked for.
+ *
+ * second_repair is for an image that a call left unsound because it did not
+ * come to its end.  It mends four faults, whoever made them, in this order:
+ * superseded slots, which become dead; all ones in word 1 or word 2 of a block
+ * without a free slot, where the word gets the least or the greatest number
+ * live in the block, or 0 if none is; all ones as the erase count of a blank
+ * block, which gets the largest count of the other blocks; and the lack of a
+ * blank block.  For that it takes the victim that a write would take, once the
+ * superseded slots are dead, moves what is live there to the lowest open block
+ * and erases it.  Where no block is full, or that open block has not the room
+ * (without an open one there is none), the answer is SECOND_NO_ROOM; else for
+ * a victim that must not be erased any more SECOND_WORN_OUT.  With any fault
+ * beside the four the answer is 4, and also if more than one block is without
+ * a count; bad_block and bad_rule then name the image's first fault, be it one
+ * of the four or not.  A sound image is accepted and left as it is.  A repair
+ * is a row of steps too: second_repair_step and second_repair_first are to it
+ * what the four above are to a write and a release.
+ *
+ * The calls that tell a step or take the first steps share a scratch image
+ * with second_repair, so no two of these seven may run at the same time. */
 #ifndef SECOND_H
 #define SECOND_H
 
@@ -79,6 +98,7 @@
 #define SECOND_BAD_IMAGE 4u
 #define SECOND_NOT_MAPPED 5u
 #define SECOND_WORN_OUT 6u
+#define SECOND_NO_ROOM 10u /* of a repair only */
 
 /* The kinds of a step. */
 #define SECOND_DONE 0u    /* there is no step i */
@@ -162,6 +182,25 @@ uint32_t second_release_first(uint32_t blocks, uint32_t sectors,
                               uint32_t number, uint32_t most,
                               uint32_t *words, uint32_t *erasures,
                               uint32_t *bad_block, uint32_t *bad_rule);
+
+uint32_t second_repair(uint32_t blocks, uint32_t sectors, uint32_t logical,
+                       uint32_t *image, size_t image_words,
+                       uint32_t *words, uint32_t *erasures,
+                       uint32_t *bad_block, uint32_t *bad_rule);
+
+uint32_t second_repair_step(uint32_t blocks, uint32_t sectors,
+                            uint32_t logical,
+                            const uint32_t *image, size_t image_words,
+                            uint32_t step,
+                            uint32_t *kind, uint32_t *place, uint32_t *word,
+                            uint32_t *bad_block, uint32_t *bad_rule);
+
+uint32_t second_repair_first(uint32_t blocks, uint32_t sectors,
+                             uint32_t logical,
+                             uint32_t *image, size_t image_words,
+                             uint32_t most,
+                             uint32_t *words, uint32_t *erasures,
+                             uint32_t *bad_block, uint32_t *bad_rule);
 
 uint32_t second_build_table(uint32_t blocks, uint32_t sectors,
                             uint32_t logical,

@@ -1,7 +1,7 @@
 /* Tests.  Beside the library stand a slow check that asks each rule of each
- * block by itself, a second account of write and release that stores results
- * instead of taking steps and writes the steps down, a plain array of what
- * every sector ought to hold, and a walk over all slots that tells what a
+ * block by itself, a second account of write, release and repair that stores
+ * results instead of taking steps and writes the steps down, a plain array of
+ * what every sector ought to hold, and a walk over all slots that tells what a
  * table ought to say. */
 #include "second.h"
 
@@ -276,15 +276,19 @@ struct step {
 static const struct step no_step = {DONE, 0, 0};
 
 /* 62 copies out of a block with one dead slot, the erase and the count, then a
- * replacement that fills the block: no row is longer. */
+ * replacement that fills the block: no row of a write is longer. */
 #define LONGEST_ROW (62 * 133 + 2 + 135)
 
-static struct step row[LONGEST_ROW];
+/* A repair may also have to see to nearly every entry, by (i), and to two
+ * words of each block, by (ii). */
+#define ROW_ROOM (64 * 63 + 2 * 64 + LONGEST_ROW)
+
+static struct step row[ROW_ROOM];
 static uint32_t row_length;
 
 static void then(struct step next)
 {
-    if (row_length == LONGEST_ROW)
+    if (row_length == ROW_ROOM)
         abort();
     row[row_length++] = next;
 }
@@ -604,6 +608,30 @@ static uint32_t do_release_first(struct shape g, uint32_t *im, uint32_t n,
                                               &bad.block, &bad.rule));
 }
 
+static uint32_t do_repair(struct shape g, uint32_t *im)
+{
+    poison();
+    return judged(g, im, second_repair(g.b, g.s, g.l, im, len_of(g), &words,
+                                       &erasures, &bad.block, &bad.rule));
+}
+
+static uint32_t do_repair_step(struct shape g, uint32_t *im, uint32_t i)
+{
+    poison();
+    return judged(g, im, second_repair_step(g.b, g.s, g.l, im, len_of(g), i,
+                                            &told.kind, &told.place,
+                                            &told.word, &bad.block,
+                                            &bad.rule));
+}
+
+static uint32_t do_repair_first(struct shape g, uint32_t *im, uint32_t most)
+{
+    poison();
+    return judged(g, im, second_repair_first(g.b, g.s, g.l, im, len_of(g),
+                                             most, &words, &erasures,
+                                             &bad.block, &bad.rule));
+}
+
 static uint32_t *fresh(struct shape g)
 {
     uint32_t *im = lend(g);
@@ -650,6 +678,156 @@ static void seat(struct shape g, uint32_t *im, uint32_t b, uint32_t s,
 {
     *entry_of(g, im, b, s) = entry;
     *map_of(g, im, b, s) &= ~(UINT32_C(1) << s % 32);
+}
+
+/* ---- Second account of repair ------------------------------------------- */
+
+/* What the last one came to; all zeros if it was refused. */
+static struct {
+    uint32_t cleared; /* by (i) */
+    uint32_t ranged;  /* words, by (ii) */
+    uint32_t counted; /* by (iii) */
+    uint32_t erased, copied;
+    bool filled;      /* the last copy took the target's last slot */
+    bool wiped_range; /* (ii) had a word to program in the victim */
+} did;
+
+static void model_clear(struct shape g, uint32_t *im)
+{
+    for (uint32_t b = 0; b < g.b; b++)
+        for (uint32_t s = 0; s < d_of(g); s++) {
+            uint32_t *e = entry_of(g, im, b, s);
+
+            if (kind_of(g, im, b, s) != SUPERSEDED)
+                continue;
+            *e = number_of(*e);
+            then_program((size_t)(e - im), *e);
+            did.cleared++;
+        }
+}
+
+/* The least number live in the block or the greatest, 0 for want of any. */
+static uint32_t model_edge(struct shape g, uint32_t *im, uint32_t b,
+                           bool greatest)
+{
+    uint32_t edge = 0, met = 0;
+
+    for (uint32_t s = 0; s < d_of(g); s++) {
+        uint32_t n = number_of(*entry_of(g, im, b, s));
+
+        if (lives(g, im, b, s) &&
+            (met++ == 0 || (greatest ? n > edge : n < edge)))
+            edge = n;
+    }
+    return edge;
+}
+
+static void model_ranges(struct shape g, uint32_t *im)
+{
+    for (uint32_t b = 0; b < g.b; b++)
+        for (uint32_t i = 1; i <= 2; i++) {
+            uint32_t *w = head_of(g, im, b) + i;
+
+            if (*w != ONES || count_kind(g, im, b, FREE) > 0)
+                continue;
+            *w = model_edge(g, im, b, i == 2);
+            then_program((size_t)(w - im), *w);
+            did.ranged++;
+        }
+}
+
+/* Where two blocks want a count, the largest beside the first is the second's
+ * all ones, and R1 stays broken. */
+static void model_counts(struct shape g, uint32_t *im)
+{
+    for (uint32_t b = 0; b < g.b; b++) {
+        uint32_t *h = head_of(g, im, b);
+        uint32_t most = 0;
+
+        if (h[0] != ONES || count_kind(g, im, b, FREE) != d_of(g))
+            continue;
+        for (uint32_t i = 0; i < g.b; i++)
+            if (i != b && head_of(g, im, i)[0] > most)
+                most = head_of(g, im, i)[0];
+        h[0] = most;
+        then_program((size_t)(h - im), most);
+        did.counted++;
+    }
+}
+
+static void model_empty(struct shape g, uint32_t *im, uint32_t v, uint32_t t)
+{
+    uint32_t count = head_of(g, im, v)[0], to = 0;
+
+    for (uint32_t s = 0; s < d_of(g); s++) {
+        if (!lives(g, im, v, s))
+            continue;
+        while (kind_of(g, im, t, to) != FREE)
+            to++;
+        model_put(g, im, t, to, number_of(*entry_of(g, im, v, s)),
+                  data_of(g, im, v, s));
+        did.copied++;
+    }
+    did.filled = did.copied > 0 && count_kind(g, im, t, FREE) == 0;
+    memset(head_of(g, im, v), 0xFF, (size_t)g.s * 512);
+    head_of(g, im, v)[0] = count + 1;
+    then_erase(v);
+    then_program((size_t)(head_of(g, im, v) - im), count + 1);
+    did.erased++;
+}
+
+/* (iv) in an image that wants nothing else; was is how it came. */
+static uint32_t model_make_blank(struct shape g, uint32_t *im, uint32_t *was)
+{
+    uint32_t v = g.b, t = g.b, room = 0;
+
+    for (uint32_t b = 0; b < g.b; b++) {
+        uint32_t free_here = count_kind(g, im, b, FREE);
+
+        if (free_here > 0 && t == g.b) {
+            t = b;
+            room = free_here;
+        }
+        if (free_here == 0 &&
+            (v == g.b || model_better_victim(g, im, b, v)))
+            v = b;
+    }
+    if (v == g.b || room < count_kind(g, im, v, LIVING))
+        return 10;
+    if (head_of(g, im, v)[0] == 1000000)
+        return 6;
+    did.wiped_range = head_of(g, was, v)[1] == ONES ||
+                      head_of(g, was, v)[2] == ONES;
+    model_empty(g, im, v, t);
+    return 0;
+}
+
+/* Mends a copy as far as (i) to (iii) go.  What the copy breaks then, beside
+ * R6, was not to be mended. */
+static uint32_t model_repair(struct shape g, uint32_t *im, uint32_t *w,
+                             uint32_t *e)
+{
+    uint32_t *after = copy_of(g, im);
+    uint32_t answer, rules;
+
+    row_length = 0;
+    memset(&did, 0, sizeof did);
+    model_clear(g, after);
+    model_ranges(g, after);
+    model_counts(g, after);
+    rules = broken(g, after);
+    answer = (rules & ~(UINT32_C(1) << 6)) != 0 ? 4
+           : rules != 0 ? model_make_blank(g, after, im) : 0;
+    if (answer == 0) {
+        memcpy(im, after, len_of(g) * sizeof *im);
+    } else {
+        row_length = 0;
+        memset(&did, 0, sizeof did);
+    }
+    *e = did.erased;
+    *w = row_length - did.erased;
+    free(after);
+    return answer;
 }
 
 /* ---- Geometry: P1 to P4 ------------------------------------------------- */
@@ -1084,6 +1262,52 @@ static bool release_parts_answer(struct lent a, uint32_t *im,
     return good && counts_are(0, 0);
 }
 
+static bool repair_answers(struct lent a, uint32_t *im, struct pair first,
+                           uint32_t repair)
+{
+    poison();
+    return answers(second_repair(a.g.b, a.g.s, a.g.l, im, a.im_words, &words,
+                                 &erasures, &bad.block, &bad.rule),
+                   repair, first) && (repair == 0 || counts_are(0, 0));
+}
+
+static bool repair_parts_answer(struct lent a, uint32_t *im,
+                                struct pair first, uint32_t repair)
+{
+    bool good = true;
+
+    poison();
+    good &= answers(second_repair_step(a.g.b, a.g.s, a.g.l, im, a.im_words,
+                                       repair == 0 ? ONES : some_number(),
+                                       &told.kind, &told.place, &told.word,
+                                       &bad.block, &bad.rule), repair, first);
+    good &= told_is(no_step);
+    poison();
+    good &= answers(second_repair_first(a.g.b, a.g.s, a.g.l, im, a.im_words,
+                                        repair == 0 ? 0 : some_number(),
+                                        &words, &erasures, &bad.block,
+                                        &bad.rule), repair, first);
+    return good && counts_are(0, 0);
+}
+
+/* What check says settles what a repair answers, but for an image with a
+ * fault; that is left to the second account. */
+static bool repair_fits(struct lent a, struct shape real, struct pair first,
+                        uint32_t check)
+{
+    uint32_t *im = copy_of(real, a.im), *model = copy_of(real, a.im);
+    uint32_t w = 0, e = 0;
+    uint32_t want = check == 4 ? model_repair(a.g, model, &w, &e) : check;
+    bool good = repair_parts_answer(a, im, first, want);
+
+    good &= same(real, im, a.im);
+    good &= repair_answers(a, im, first, want);
+    good &= counts_are(w, e) && same(real, im, model);
+    free(im);
+    free(model);
+    return good;
+}
+
 static bool format_answers(struct lent a, uint32_t *im, uint32_t format)
 {
     poison();
@@ -1118,6 +1342,8 @@ static void expect(struct lent a, struct shape real, uint32_t format,
     good &= format_answers(a, im, format);
     good &= format == 0 || same(real, im, a.im);
     free(im);
+
+    good &= repair_fits(a, real, first, check);
     check_at(good, "refusals", line);
 }
 
@@ -1183,6 +1409,8 @@ static void test_refusal_1_of_nothing(void)
     CHECK(lookups_answer(a, NULL, no_fault, 1, 1));
     CHECK(release_answers(a, NULL, no_fault, 1));
     CHECK(release_parts_answer(a, NULL, no_fault, 1));
+    CHECK(repair_answers(a, NULL, no_fault, 1));
+    CHECK(repair_parts_answer(a, NULL, no_fault, 1));
     CHECK(format_answers(a, NULL, 1));
     poison();
     CHECK(second_write_step(8, 16, 90, NULL, 0, 0, NULL, 0, 0, &told.kind,
@@ -3746,7 +3974,10 @@ static void test_passing(void)
 
 /* ---- The steps of a call ------------------------------------------------ */
 
-/* A write of the data to n or, without data, a release of it. */
+/* In place of a number. */
+#define REPAIR ONES
+
+/* A write of the data to n or, without data, a release of it, or a repair. */
 struct order {
     struct shape g;
     uint32_t *im; /* as it is before the call */
@@ -3756,18 +3987,24 @@ struct order {
 
 static uint32_t ask(struct order o, uint32_t i)
 {
+    if (o.n == REPAIR)
+        return do_repair_step(o.g, o.im, i);
     return o.data ? do_write_step(o.g, o.im, o.n, o.data, i)
                   : do_release_step(o.g, o.im, o.n, i);
 }
 
 static uint32_t take_first(struct order o, uint32_t *im, uint32_t most)
 {
+    if (o.n == REPAIR)
+        return do_repair_first(o.g, im, most);
     return o.data ? do_write_first(o.g, im, o.n, o.data, most)
                   : do_release_first(o.g, im, o.n, most);
 }
 
 static uint32_t take_all(struct order o, uint32_t *im)
 {
+    if (o.n == REPAIR)
+        return do_repair(o.g, im);
     return o.data ? do_write(o.g, im, o.n, o.data)
                   : do_release(o.g, im, o.n);
 }
@@ -4281,6 +4518,8 @@ static void test_reads_between(void)
 static uint32_t model_call(struct order o, uint32_t *im, uint32_t *w,
                            uint32_t *e)
 {
+    if (o.n == REPAIR)
+        return model_repair(o.g, im, w, e);
     return o.data ? model_write(o.g, im, o.n, o.data, w, e)
                   : model_release(o.g, im, o.n, w, e);
 }
@@ -4413,6 +4652,1054 @@ static void test_steps(void)
     test_longest_row();
 }
 
+/* ---- Repair: what it must keep, and how it is tried --------------------- */
+
+/* The whole map: for each number how often it is live, and the contents. */
+static uint32_t *map_now(struct shape g, uint32_t *im)
+{
+    uint32_t *map = calloc((size_t)g.l * 129, sizeof *map);
+
+    if (!map)
+        abort();
+    for (uint32_t b = 0; b < g.b; b++)
+        for (uint32_t s = 0; s < d_of(g); s++) {
+            uint32_t n = number_of(*entry_of(g, im, b, s));
+
+            if (!lives(g, im, b, s))
+                continue;
+            map[129 * n]++;
+            memcpy(map + 129 * n + 1, data_of(g, im, b, s), 512);
+        }
+    return map;
+}
+
+static bool has_map(struct shape g, uint32_t *im, const uint32_t *want)
+{
+    uint32_t *map = map_now(g, im);
+    bool good = memcmp(map, want, (size_t)g.l * 129 * sizeof *map) == 0;
+
+    free(map);
+    return good;
+}
+
+/* The map is the same after every step of the row that was written down. */
+static bool keeps_map(struct order o)
+{
+    uint32_t *im = copy_of(o.g, o.im), *map = map_now(o.g, o.im);
+    bool good = true;
+
+    for (uint32_t i = 0; i < row_length; i++)
+        good &= apply(o.g, im, row[i]) && has_map(o.g, im, map);
+    free(im);
+    free(map);
+    return good;
+}
+
+/* The check names this fault and all other calls refuse the image, but a
+ * repair takes the row that was written down.  The map is kept throughout, and
+ * what is left, which the image then is, is sound. */
+static void expect_mended(struct shape g, uint32_t *im, struct pair want,
+                          uint32_t length, int line)
+{
+    struct order o = {g, im, REPAIR, NULL};
+
+    check_at(row_length == length, "the row written down", line);
+    check_at(do_check(g, im) == 4 && bad_is(want), "first fault", line);
+    expect_row(o, 1, line);
+    check_at(keeps_map(o), "the map", line);
+    refused_by_all(g, im, 0, line); /* has another row written down */
+    check_at(do_repair(g, im) == 0, "repair", line);
+    check_at(broken(g, im) == 0 && do_check(g, im) == 0, "sound", line);
+}
+
+#define MENDED(block, rule, length) \
+    expect_mended(g, im, (struct pair){block, rule}, length, __LINE__)
+
+/* By all three calls, and with nothing changed. */
+static void refuses_repair(struct shape g, uint32_t *im, uint32_t want,
+                           struct pair first, int line)
+{
+    struct lent a = {g, im, len_of(g), 0, 128};
+    uint32_t *was = copy_of(g, im);
+    bool good = true;
+
+    for (uint32_t i = 0; i < 4; i++)
+        good &= repair_parts_answer(a, im, first, want);
+    good &= repair_answers(a, im, first, want) && same(g, im, was);
+    good &= bad_is(want == 4 ? first_fault(g, im) : no_fault);
+    check_at(good, "repair refused", line);
+    free(was);
+}
+
+#define UNMENDED(want, block, rule) \
+    refuses_repair(g, im, want, (struct pair){block, rule}, __LINE__)
+
+static void range(struct shape g, uint32_t *im, uint32_t b, uint32_t least,
+                  uint32_t greatest)
+{
+    head_of(g, im, b)[1] = least;
+    head_of(g, im, b)[2] = greatest;
+}
+
+/* The slots of a block from 0 on, each with a fill that tells them apart. */
+static void seat_block(struct shape g, uint32_t *im, uint32_t b,
+                       const uint32_t *entries, uint32_t so_many)
+{
+    for (uint32_t s = 0; s < so_many; s++) {
+        seat(g, im, b, s, entries[s]);
+        pour(g, im, b, s, 100 * b + s);
+    }
+}
+
+#define SEAT(b, ...) \
+    seat_block(g, im, b, (const uint32_t[]){__VA_ARGS__}, \
+               sizeof (uint32_t[]){__VA_ARGS__} / sizeof(uint32_t))
+
+/* ---- Repair: each of the four faults by hand ---------------------------- */
+
+static void test_repair_of_sound(void)
+{
+    struct shape g = {3, 5, 7}, other = {3, 7, 10};
+    struct order o = {g, fresh(g), REPAIR, NULL};
+
+    row_length = 0;
+    EXPECT_ROW(0);
+    free(o.im);
+    o.im = half_way(g);
+    EXPECT_ROW(0);
+    /* At the ceiling, but there is nothing to erase. */
+    o.im[0] = o.im[640] = o.im[1280] = 1000000;
+    EXPECT_ROW(0);
+    free(o.im);
+    o = (struct order){other, two_full(other), REPAIR, NULL};
+    EXPECT_ROW(0);
+    free(o.im);
+}
+
+/* Over two blocks; one of a number that has no other slot stays. */
+static void test_mend_superseded(void)
+{
+    struct shape g = {3, 5, 7};
+    uint32_t *im = fresh(g);
+
+    seat(g, im, 0, 0, LIVE + 3);
+    seat(g, im, 0, 1, PASSING + 5);
+    seat(g, im, 0, 3, PASSING + 3);
+    seat(g, im, 1, 0, PASSING + 3);
+    seat(g, im, 1, 2, LIVE + 5);
+    seat(g, im, 1, 3, PASSING + 6);
+    row_length = 0;
+    then_program(5, 5);
+    then_program(7, 3);
+    then_program(644, 3);
+    MENDED(0, 8, 3);
+    CHECK(im[647] == PASSING + 6 && report_is(g, im, 3, 6, 3, 0));
+    free(im);
+}
+
+/* Left all ones are both words, the second, the second of a block where none
+ * is live, and the first.  In block 0 what is superseded has the greatest
+ * number, and what is in passing the least. */
+static void test_mend_ranges(void)
+{
+    struct shape g = {5, 5, 9};
+    uint32_t *im = fresh(g);
+
+    SEAT(0, LIVE + 4, PASSING + 2, PASSING + 6, 0);
+    SEAT(1, LIVE + 6, LIVE + 0, 0x40000001, ONES);
+    SEAT(2, 0, ONES, 0xE0000003, PASSING + 9);
+    SEAT(4, LIVE + 8, LIVE + 7, 3, LIVE + 5);
+    range(g, im, 1, 0, ONES);
+    range(g, im, 2, 9, ONES);
+    range(g, im, 4, ONES, 0xFFFFFFFE);
+    row_length = 0;
+    then_program(6, 6);
+    then_program(1, 2);
+    then_program(2, 4);
+    then_program(642, 6);
+    then_program(1282, 0);
+    then_program(2561, 5);
+    MENDED(0, 7, 6);
+    CHECK(im[641] == 0 && im[1281] == 9 && im[2562] == 0xFFFFFFFE);
+    free(im);
+}
+
+/* None live: 0 in both, or in the first; and all ones where the block has a
+ * free slot are as they should be. */
+static void test_mend_ranges_of_none(void)
+{
+    struct shape g = {4, 3, 5};
+    uint32_t *im = fresh(g);
+
+    SEAT(0, 3, ONES);
+    SEAT(1, ONES, ONES);
+    SEAT(2, LIVE + 1);
+    range(g, im, 1, ONES, 4);
+    row_length = 0;
+    then_program(1, 0);
+    then_program(2, 0);
+    then_program(385, 0);
+    MENDED(0, 7, 3);
+    CHECK(im[386] == 4 && im[769] == ONES && im[770] == ONES);
+    free(im);
+}
+
+/* The one superseded slot of a block is the only one with a live look. */
+static void test_mend_range_behind_superseded(void)
+{
+    struct shape g = {3, 3, 3};
+    uint32_t *im = fresh(g);
+
+    SEAT(0, PASSING + 2, 1);
+    SEAT(1, LIVE + 2);
+    row_length = 0;
+    then_program(4, 2);
+    then_program(1, 0);
+    then_program(2, 0);
+    MENDED(0, 7, 3);
+    free(im);
+}
+
+static void test_mend_count(void)
+{
+    struct shape g = {3, 5, 7}, least = {2, 3, 1};
+
+    for (uint32_t b = 0; b < 3; b++) {
+        uint32_t *im = fresh(g);
+
+        head_of(g, im, (b + 1) % 3)[0] = 7;
+        head_of(g, im, (b + 2) % 3)[0] = b == 1 ? 1000000 : 9;
+        SEAT((b + 1) % 3, LIVE + 3, 0);
+        SEAT((b + 2) % 3, LIVE + 1, LIVE + 2, LIVE + 0, LIVE + 4);
+        range(g, im, (b + 2) % 3, 0, 4);
+        head_of(g, im, b)[0] = ONES;
+        row_length = 0;
+        then_program(640 * b, b == 1 ? 1000000 : 9);
+        MENDED(b, 1, 1);
+        free(im);
+    }
+    for (uint32_t b = 0; b < 2; b++) {
+        uint32_t *im = fresh(least);
+
+        g = least;
+        im[384 * b] = ONES;
+        row_length = 0;
+        then_program(384 * b, 0);
+        MENDED(b, 1, 1);
+        free(im);
+    }
+}
+
+/* In (3,5,7), from a slot of block 0 to one of block 1, which is at 640. */
+static void then_move(uint32_t from, uint32_t to, uint32_t map, uint32_t n)
+{
+    then_program(643, map);
+    then_program(4 + from, PASSING + n);
+    for (uint32_t i = 0; i < 128; i++)
+        then_program(768 + 128 * to + i, from);
+    then_program(644 + to, 0xE0000000 + n);
+    then_program(644 + to, 0xC0000000 + n);
+    then_program(4 + from, n);
+}
+
+/* No block of (3,5,7) is blank.  Block 0 is full, with two live slots; block 1
+ * has its free slots in the second and the last place; block 2 is open too and
+ * has more of them. */
+static uint32_t *none_blank(struct shape g)
+{
+    uint32_t *im = fresh(g);
+
+    SEAT(0, LIVE + 1, 0, PASSING + 3, ONES);
+    range(g, im, 0, 1, 3);
+    im[0] = 4;
+    seat(g, im, 1, 0, LIVE + 0);
+    seat(g, im, 1, 2, 0x40000004);
+    seat(g, im, 2, 3, LIVE + 5);
+    im[640] = 2;
+    CHECK(broken(g, im) == UINT32_C(1) << 6);
+    return im;
+}
+
+/* The slots in odd places are taken in their order and the target fills. */
+static void test_mend_blank(void)
+{
+    struct shape g = {3, 5, 7};
+    uint32_t *im = none_blank(g);
+
+    row_length = 0;
+    then_move(0, 1, 0xFFFFFFF8, 1);
+    then_move(2, 3, 0xFFFFFFF0, 3);
+    then_program(641, 0);
+    then_program(642, 3);
+    then_erase(0);
+    then_program(0, 5);
+    MENDED(3, 6, 2 * 133 + 2 + 2);
+    CHECK(all_are(im + 1, 639, ONES) && report_is(g, im, 4, 7, 1, 7));
+    CHECK(reads_fill(g, im, 1, 0) && reads_fill(g, im, 3, 2));
+    free(im);
+
+    /* One more free slot, between the two: the target keeps one. */
+    im = none_blank(g);
+    im[643] |= 4;
+    im[646] = ONES;
+    row_length = 0;
+    then_move(0, 1, 0xFFFFFFFC, 1);
+    then_move(2, 2, 0xFFFFFFF8, 3);
+    then_erase(0);
+    then_program(0, 5);
+    MENDED(3, 6, 2 * 133 + 2);
+    CHECK(im[641] == ONES && im[642] == ONES && im[647] == ONES);
+    free(im);
+}
+
+/* (ii) sees to the victim like to any full block, although it is to go. */
+static void test_mend_range_of_victim(void)
+{
+    struct shape g = {3, 5, 7};
+    uint32_t *im = none_blank(g);
+
+    range(g, im, 0, ONES, ONES);
+    row_length = 0;
+    then_program(1, 1);
+    then_program(2, 3);
+    then_move(0, 1, 0xFFFFFFF8, 1);
+    then_move(2, 3, 0xFFFFFFF0, 3);
+    then_program(641, 0);
+    then_program(642, 3);
+    then_erase(0);
+    then_program(0, 5);
+    MENDED(0, 7, 2 + 2 * 133 + 2 + 2);
+    free(im);
+}
+
+/* All are full, so there is nowhere to copy to, and nothing to copy: most dead
+ * slots, then the least count, then the lowest number. */
+static void test_mend_without_copies(void)
+{
+    static const struct { uint32_t counts[4], victim; } cases[] = {
+        {{5, 0, 4, 4}, 2}, {{4, 0, 4, 4}, 0}, {{6, 9, 6, 5}, 3},
+        {{999999, 0, 1000000, 1000000}, 0},
+    };
+    struct shape g = {4, 2, 2};
+
+    for (size_t i = 0; i < sizeof cases / sizeof cases[0]; i++) {
+        uint32_t *im = fresh(g), v = cases[i].victim;
+
+        SEAT(0, 1);
+        SEAT(1, LIVE + 1);
+        SEAT(2, ONES);
+        SEAT(3, 0xE0000001);
+        for (uint32_t b = 0; b < 4; b++) {
+            range(g, im, b, 1, 1);
+            head_of(g, im, b)[0] = cases[i].counts[b];
+        }
+        row_length = 0;
+        then_erase(v);
+        then_program(256 * v, cases[i].counts[v] + 1);
+        MENDED(4, 6, 2);
+        CHECK(do_repair(g, im) == 0 && counts_are(0, 0));
+        free(im);
+    }
+}
+
+/* An open block beside a victim with nothing to copy stays as it is. */
+static void test_mend_beside_open(void)
+{
+    struct shape g = {3, 3, 3};
+    uint32_t *im = fresh(g);
+
+    SEAT(0, LIVE + 1);
+    SEAT(1, LIVE + 0, LIVE + 2);
+    range(g, im, 1, 0, 2);
+    SEAT(2, ONES, 1);
+    range(g, im, 2, 7, 0);
+    row_length = 0;
+    then_erase(2);
+    then_program(768, 1);
+    MENDED(3, 6, 2);
+    CHECK(im[3] == 0xFFFFFFFE && report_is(g, im, 3, 3, 0, 1));
+    free(im);
+}
+
+/* Block 1 of (4,4,5) has two superseded slots.  Only with them dead is it the
+ * victim; before, that would be block 0, which has more live slots than the
+ * lowest open block, 2, has free ones. */
+static uint32_t *victim_by_superseded(struct shape g)
+{
+    uint32_t *im = fresh(g);
+
+    SEAT(0, LIVE + 0, 0, LIVE + 1);
+    SEAT(1, PASSING + 2, PASSING + 3, LIVE + 4);
+    SEAT(2, LIVE + 2, LIVE + 3);
+    SEAT(3, 0);
+    range(g, im, 0, 0, 1);
+    range(g, im, 1, 2, 4);
+    return im;
+}
+
+static void test_mend_victim_by_superseded(void)
+{
+    struct shape g = {4, 4, 5};
+    uint32_t *im = victim_by_superseded(g);
+
+    im[0] = 1000000; /* of no account: block 0 is not the victim */
+    im[512] = 999999;
+    row_length = 0;
+    then_program(516, 2);
+    then_program(517, 3);
+    then_program(1027, 0xFFFFFFF8);
+    then_program(518, 0x80000004);
+    for (uint32_t i = 0; i < 128; i++)
+        then_program(1408 + i, 102);
+    then_program(1030, 0xE0000004);
+    then_program(1030, 0xC0000004);
+    then_program(518, 4);
+    then_program(1025, 2);
+    then_program(1026, 4);
+    then_erase(1);
+    then_program(512, 1000000);
+    MENDED(1, 8, 2 + 133 + 2 + 2);
+    free(im);
+
+    im = victim_by_superseded(g);
+    im[512] = 1000000;
+    UNMENDED(6, 0, 0);
+    /* With one dead slot in each, block 0 has the least count, and then there
+     * is not the room. */
+    im[516] = im[1028] = im[1029] = 2;
+    im[517] = LIVE + 3;
+    CHECK(broken(g, im) == UINT32_C(1) << 6);
+    UNMENDED(10, 0, 0);
+    free(im);
+}
+
+/* (i), (ii) and (iv), and then (i), (ii) and (iii), from the back of the image
+ * to its front: the order is theirs and not that of the places. */
+static void test_mend_in_order(void)
+{
+    struct shape g = {4, 3, 5};
+    uint32_t *im = fresh(g);
+
+    SEAT(0, 0, 0);             /* the victim, without a range */
+    SEAT(1, PASSING + 1, 0);   /* and without a range too */
+    SEAT(2, LIVE + 1, LIVE + 2);
+    range(g, im, 2, 1, ONES);
+    SEAT(3, PASSING + 2);
+    row_length = 0;
+    then_program(388, 1);
+    then_program(1156, 2);
+    then_program(1, 0);
+    then_program(2, 0);
+    then_program(385, 0);
+    then_program(386, 0);
+    then_program(770, 2);
+    then_erase(0);
+    then_program(0, 1);
+    MENDED(0, 7, 9);
+    free(im);
+
+    im = fresh(g);
+    im[0] = ONES;
+    SEAT(1, LIVE + 1, LIVE + 2);
+    SEAT(2, PASSING + 2, LIVE + 3);
+    SEAT(3, PASSING + 1);
+    im[384] = 6;
+    im[768] = 8;
+    row_length = 0;
+    then_program(772, 2);
+    then_program(1156, 1);
+    then_program(385, 1);
+    then_program(386, 2);
+    then_program(769, 3);
+    then_program(770, 3);
+    then_program(0, 8);
+    MENDED(0, 1, 7);
+    free(im);
+}
+
+/* ---- Repair: refusals --------------------------------------------------- */
+
+static void test_repair_10(void)
+{
+    struct shape g = {3, 5, 7};
+    uint32_t *im = fresh(g);
+
+    /* No block is full, whatever the counts and whatever (i) would do. */
+    SEAT(0, LIVE + 1);
+    SEAT(1, 0, PASSING + 1);
+    SEAT(2, ONES, 0, 0);
+    UNMENDED(10, 0, 0);
+    im[0] = im[640] = im[1280] = 1000000;
+    UNMENDED(10, 0, 0);
+    free(im);
+
+    /* Too few free slots in the lowest open block; the next has enough. */
+    im = none_blank(g);
+    seat(g, im, 1, 1, 0);
+    UNMENDED(10, 0, 0);
+    /* Before 6. */
+    im[0] = 1000000;
+    UNMENDED(10, 0, 0);
+    im[0] = 4;
+    /* It fits once one of the two live slots is dead, or superseded. */
+    im[6] = 3;
+    CHECK(do_repair_first(g, im, 0) == 0);
+    im[6] = PASSING + 3;
+    im[645] = LIVE + 3;
+    CHECK(do_repair_step(g, im, 0) == 0);
+    CHECK(told_is((struct step){PROGRAM, 6, 3}));
+    free(im);
+
+    /* None open and a live slot in each. */
+    im = fresh(g);
+    SEAT(0, LIVE + 1, 0, 0, 0);
+    SEAT(1, LIVE + 2, 0, 0, 0);
+    SEAT(2, LIVE + 3, LIVE + 4, 0, ONES);
+    for (uint32_t b = 0; b < 3; b++)
+        range(g, im, b, 0, 6);
+    UNMENDED(10, 0, 0);
+    range(g, im, 2, ONES, ONES);
+    UNMENDED(10, 0, 0);
+    im[0] = 1000000;
+    UNMENDED(10, 0, 0);
+    im[644] = 2;
+    CHECK(do_repair(g, im) == 0 && counts_are(3, 1) && im[640] == 1);
+    free(im);
+}
+
+static void test_repair_6(void)
+{
+    struct shape g = {3, 5, 7};
+    uint32_t *im = none_blank(g);
+
+    im[0] = 1000000;
+    UNMENDED(6, 0, 0);
+    range(g, im, 0, ONES, ONES); /* what (ii) could do is not done either */
+    UNMENDED(6, 0, 0);
+    im[0] = 999999;
+    im[640] = im[1280] = 1000000;
+    CHECK(do_repair(g, im) == 0 && im[0] == 1000000);
+    free(im);
+}
+
+/* Word 0 all ones: in two blocks, in one that is not blank, or not quite. */
+static void test_repair_4_of_counts(void)
+{
+    struct shape g = {3, 5, 7}, least = {2, 3, 1};
+    uint32_t *im = fresh(g);
+
+    im[0] = im[1280] = ONES;
+    UNMENDED(4, 0, 1);
+    im[640] = ONES;
+    UNMENDED(4, 0, 1);
+    im[0] = 0;
+    UNMENDED(4, 1, 1);
+    im[640] = 1000001;
+    UNMENDED(4, 1, 1);
+    im[1280] = 0;
+    UNMENDED(4, 1, 1);
+    im[640] = 0xFFFFFFFE;
+    UNMENDED(4, 1, 1);
+    im[640] = ONES;
+    CHECK(do_repair_first(g, im, 0) == 0);
+    seat(g, im, 1, 2, ONES);
+    UNMENDED(4, 1, 1);
+    SEAT(1, LIVE + 0, LIVE + 2, 0, ONES);
+    range(g, im, 1, 0, 2);
+    UNMENDED(4, 1, 1);
+    im[640] = 0;
+    CHECK(do_check(g, im) == 0);
+    free(im);
+
+    im = fresh(least);
+    g = least;
+    im[0] = im[384] = ONES;
+    UNMENDED(4, 0, 1);
+    free(im);
+}
+
+/* A blank block without a count that has some other fault. */
+static void test_repair_4_beside_count(void)
+{
+    struct shape g = {3, 5, 7};
+    uint32_t *im = fresh(g);
+
+    im[640] = ONES;
+    for (uint32_t i = 1; i <= 2; i++) {
+        im[640 + i] = 0;
+        UNMENDED(4, 1, 1);
+        im[640 + i] = ONES;
+    }
+    im[643] = 0x7FFFFFFF;
+    UNMENDED(4, 1, 1);
+    im[643] = ONES;
+    im[1279] = 0;
+    UNMENDED(4, 1, 1);
+    im[1279] = ONES;
+    CHECK(do_repair(g, im) == 0 && counts_are(1, 0));
+    free(im);
+}
+
+/* One word all ones, and the other wrong. */
+static void test_repair_4_of_ranges(void)
+{
+    static const struct { uint32_t least, greatest, answer; } cases[] = {
+        {ONES, ONES, 0}, {ONES, 5, 0}, {2, ONES, 0}, {0, ONES, 0},
+        {ONES, 0xFFFFFFFE, 0}, {ONES, 4, 4}, {3, ONES, 4}, {6, ONES, 4},
+        {0xFFFFFFFE, ONES, 4}, {ONES, 0, 4}, {3, 5, 4}, {2, 4, 4},
+    };
+    struct shape g = {3, 5, 7};
+    uint32_t *im = fresh(g);
+
+    /* 0 and 6 are superseded and lie outside whatever is asked. */
+    SEAT(1, PASSING + 5, LIVE + 2, PASSING + 0, PASSING + 6);
+    SEAT(2, LIVE + 0, LIVE + 6);
+    for (size_t i = 0; i < sizeof cases / sizeof cases[0]; i++) {
+        range(g, im, 1, cases[i].least, cases[i].greatest);
+        if (cases[i].answer == 4)
+            UNMENDED(4, 1, 7);
+        else
+            CHECK(do_repair_first(g, im, 0) == 0);
+    }
+    /* In a block with a free slot there is nothing to mend by (ii). */
+    range(g, im, 1, ONES, ONES);
+    im[1281] = 0;
+    UNMENDED(4, 1, 7);
+    im[1281] = ONES;
+    im[1282] = 6;
+    UNMENDED(4, 1, 7);
+    im[1282] = ONES;
+    CHECK(do_repair(g, im) == 0 && counts_are(4, 0));
+    free(im);
+}
+
+/* Any other fault, in front of one that could be mended or behind it; named is
+ * the first, and 4 comes before 10 and 6. */
+static void test_repair_4_beside_others(void)
+{
+    struct shape g = {3, 5, 7};
+    uint32_t *im = fresh(g);
+
+    seat(g, im, 0, 0, PASSING + 3);
+    seat(g, im, 1, 0, LIVE + 3);
+    im[2 * 640 + 128] = 0;
+    UNMENDED(4, 0, 8);
+    im[2 * 640 + 128] = ONES;
+    seat(g, im, 1, 1, LIVE + 7);
+    UNMENDED(4, 0, 8);
+    im[645] = LIVE + 3;
+    UNMENDED(4, 0, 8);
+    im[645] = 0;
+    im[0] = 1000001;
+    UNMENDED(4, 0, 1);
+    im[0] = 0;
+    im[3] |= 1;
+    UNMENDED(4, 0, 2);
+    im[3] &= ~UINT32_C(1);
+    CHECK(do_repair_first(g, im, 0) == 0);
+    free(im);
+
+    im = none_blank(g);
+    im[0] = 1000000;
+    im[640] = 1000001;
+    UNMENDED(4, 1, 1);
+    im[640] = ONES;
+    UNMENDED(4, 1, 1);
+    im[640] = 0;
+    im[644] = PASSING + 5; /* superseded */
+    im[1283] = 0xEFFFFFF7;
+    UNMENDED(4, 1, 8);
+    im[1283] = 0xFFFFFFF7;
+    seat(g, im, 1, 1, LIVE + 1);
+    UNMENDED(4, 1, 5);
+    im[645] = PASSING + 3; /* twice in passing, so both are live */
+    UNMENDED(4, 1, 5);
+    im[645] = 0;
+    im[1] = 2;
+    UNMENDED(4, 0, 7);
+    im[1] = 1;
+    UNMENDED(10, 0, 0);
+    free(im);
+}
+
+/* ---- Repair: cuts ------------------------------------------------------- */
+
+/* How often what is worth a test came about. */
+static struct {
+    uint32_t before, after; /* the map in the end, where the two differ */
+    uint32_t cleared, ranged, counted, moved, filled, wiped_range;
+    uint32_t nothing;       /* to be done by the last repair */
+    uint32_t at_limit;      /* more cuts than one, and as many as g */
+    uint32_t anew;          /* a cut behind an erasure by a cut repair */
+    uint32_t answers[11];
+} met;
+
+static void tally(void)
+{
+    met.cleared += did.cleared > 0;
+    met.ranged += did.ranged > 0;
+    met.counted += did.counted > 0;
+    met.moved += did.copied > 0;
+    met.filled += did.filled;
+    met.wiped_range += did.wiped_range;
+    met.nothing += row_length == 0;
+}
+
+/* A number of steps of the row that was written down.  Most of the steps store
+ * contents; from there it goes on, more often than not, to what follows. */
+static uint32_t some_cut(struct shape g)
+{
+    uint32_t j = below(row_length + 1);
+
+    if (below(4) == 0)
+        return j;
+    while (j > 0 && j < row_length && row[j - 1].kind == PROGRAM &&
+           row[j - 1].place % (128 * g.s) >= 128)
+        j++;
+    j += below(5);
+    return j < row_length ? j : row_length;
+}
+
+/* Cuts the repair that the image wants. */
+static void cut_repair(struct shape g, uint32_t *im, uint32_t *cuts)
+{
+    uint32_t *model = copy_of(g, im);
+    uint32_t w, e;
+
+    CHECK(model_repair(g, model, &w, &e) == 0);
+    CHECK(do_repair_first(g, im, some_cut(g)) == 0);
+    /* The cut comes behind the erasure, so it is the first since then. */
+    met.anew += *cuts > 1 && erasures > 0;
+    *cuts = erasures > 0 ? 1 : *cuts + 1;
+    free(model);
+}
+
+/* K4's demand: the call cut after j steps, repairs cut, g cuts at most since
+ * the last erasure, then a repair that is not. */
+static void cut_and_mend(struct order o, uint32_t j, const uint32_t *before,
+                         const uint32_t *after)
+{
+    struct shape g = o.g;
+    struct second_geometry x = {g.b, g.s, g.l};
+    uint32_t *im = copy_of(g, o.im), *model;
+    uint32_t cuts = 1, w, e;
+    bool is_before, is_after;
+
+    CHECK(take_first(o, im, j) == 0);
+    for (uint32_t i = below(4); i > 0 && cuts < second_gain(x); i--)
+        cut_repair(g, im, &cuts);
+    met.at_limit += cuts > 1 && cuts == second_gain(x);
+
+    model = copy_of(g, im);
+    CHECK(model_repair(g, model, &w, &e) == 0);
+    tally();
+    CHECK(do_repair(g, im) == 0 && counts_are(w, e) && same(g, im, model));
+    CHECK(broken(g, im) == 0 && do_check(g, im) == 0);
+    is_before = has_map(g, im, before);
+    is_after = has_map(g, im, after);
+    CHECK(is_before || is_after);
+    met.before += is_before && !is_after;
+    met.after += is_after && !is_before;
+    free(im);
+    free(model);
+}
+
+#define TRIES 8
+
+/* After each of its steps, or after some of them. */
+static void cut_call(struct order o, bool each)
+{
+    uint32_t *model = copy_of(o.g, o.im);
+    uint32_t *before = map_now(o.g, o.im), *after;
+    uint32_t w, e, some[TRIES];
+    uint32_t answer = model_call(o, model, &w, &e);
+    uint32_t so_many = each ? row_length + 1 : TRIES;
+
+    after = map_now(o.g, model);
+    /* All drawn now: the row is another one after the first of them. */
+    for (uint32_t i = 0; i < TRIES; i++)
+        some[i] = some_cut(o.g);
+    for (uint32_t i = 0; answer == 0 && i < so_many; i++)
+        cut_and_mend(o, each ? i : some[i], before, after);
+    met.answers[answer]++;
+    free(model);
+    free(before);
+    free(after);
+}
+
+/* Full but for a blank block, so that a write must reclaim. */
+static void draw_full_image(struct shape g, uint32_t *im)
+{
+    uint32_t next = 0, blank = below(g.b);
+
+    CHECK(do_format(g, im) == 0);
+    for (uint32_t b = 0; b < g.b; b++) {
+        head_of(g, im, b)[0] = below(4) ? below(3) : 999999;
+        if (b == blank)
+            continue;
+        for (uint32_t s = 0; s < d_of(g); s++) {
+            seat(g, im, b, s, next < g.l && below(4)
+                                  ? (below(4) ? LIVE : PASSING) + next++
+                                  : dead_slot(g));
+            for (uint32_t i = 0; i < 128; i++)
+                data_of(g, im, b, s)[i] = rnd();
+        }
+        range(g, im, b, 0, g.l - 1);
+    }
+    CHECK(broken(g, im) == 0);
+}
+
+static void cut_drawn_call(struct shape g, bool full, bool each)
+{
+    uint32_t data[SECTOR];
+    struct order o = {g, lend(g), below(g.l), below(6) ? data : NULL};
+
+    for (uint32_t i = 0; i < 128; i++)
+        data[i] = rnd();
+    if (full)
+        draw_full_image(g, o.im);
+    else
+        draw_image(g, o.im);
+    cut_call(o, each);
+    free(o.im);
+}
+
+static void test_cuts(void)
+{
+    static const struct shape shapes[] = {
+        {2, 3, 1}, {3, 2, 1}, {3, 5, 7}, {4, 4, 8}, {4, 5, 6}, {6, 3, 9},
+        {3, 6, 4}, {2, 8, 3}, {3, 7, 10}, {2, 7, 5},
+    };
+
+    memset(&met, 0, sizeof met);
+    for (uint32_t round = 0; round < 20; round++)
+        cut_drawn_call(shapes[round % 10], round < 10, true);
+    for (uint32_t round = 0; round < 600; round++)
+        cut_drawn_call(shapes[round % 10], below(3) > 0, false);
+    cut_drawn_call((struct shape){2, 36, 34}, true, false);
+    cut_drawn_call((struct shape){3, 64, 120}, true, false);
+    CHECK(met.before > 500 && met.after > 500 && met.nothing > 500);
+    CHECK(met.cleared > 100 && met.ranged > 100 && met.counted > 100);
+    CHECK(met.moved > 500 && met.filled > 100 && met.at_limit > 100);
+    CHECK(met.anew > 20 && met.answers[0] > 300);
+}
+
+/* The largest image, and the most that (iv) can have to copy after a cut: 30
+ * copies are made, one slot is lost, and the other 32 just fit. */
+static void test_cut_of_largest(void)
+{
+    struct shape g = {64, 64, 3968};
+    uint32_t *im = packed(g, 50), *map = map_now(g, im);
+    uint32_t data[SECTOR] = {0};
+    struct order o = {g, im, REPAIR, NULL};
+
+    CHECK(do_write_first(g, im, 1234, data, 30 * 133 + 10) == 0);
+    CHECK(do_check(g, im) == 4 && bad_is((struct pair){64, 6}));
+    CHECK(ask(o, 32 * 133 + 1) == 0 && told.place % 8192 == 2);
+    CHECK(ask(o, 32 * 133 + 2) == 0 && told.kind == ERASE);
+    CHECK(ask(o, 32 * 133 + 3) == 0 && told.word == 1);
+    CHECK(ask(o, 32 * 133 + 4) == 0 && told_is(no_step));
+    CHECK(do_repair_first(g, im, 32 * 133 + 3) == 0);
+    CHECK(counts_are(32 * 133 + 2, 1));
+    CHECK(do_repair(g, im) == 0 && counts_are(1, 0));
+    CHECK(do_check(g, im) == 0 && has_map(g, im, map));
+    free(im);
+    free(map);
+}
+
+/* More cuts than g: the slots that they cost are then missing. */
+static void test_cuts_beyond(void)
+{
+    struct shape g = {2, 5, 3};
+    uint32_t *im = fresh(g);
+    uint32_t data[SECTOR] = {0};
+
+    SEAT(0, LIVE + 0, LIVE + 1, LIVE + 2, 0);
+    range(g, im, 0, 0, 2);
+    CHECK(do_write_first(g, im, 1, data, 1) == 0);
+    CHECK(do_repair_step(g, im, 0) == 0);
+    CHECK(told_is((struct step){PROGRAM, 643, 0xFFFFFFFC}));
+    CHECK(do_repair_first(g, im, 1) == 0 && counts_are(1, 0));
+    UNMENDED(10, 0, 0);
+    free(im);
+}
+
+/* ---- Repair: drawn faults, against the second account ------------------- */
+
+/* A slot of such a kind, drawn from all; false if there is none. */
+static bool any_slot(struct shape g, uint32_t *im, enum kind want,
+                     uint32_t *b, uint32_t *s)
+{
+    uint32_t all = g.b * d_of(g), from = below(all);
+
+    for (uint32_t i = 0; i < all; i++) {
+        *b = (from + i) % all / d_of(g);
+        *s = (from + i) % all % d_of(g);
+        if (kind_of(g, im, *b, *s) == want)
+            return true;
+    }
+    return false;
+}
+
+/* Puts one in passing beside a number that is complete. */
+static void supersede(struct shape g, uint32_t *im)
+{
+    uint32_t b, s, tb, ts;
+
+    if (any_slot(g, im, LIVING, &b, &s) &&
+        any_slot(g, im, below(2) ? DEAD : FREE, &tb, &ts)) {
+        uint32_t *e = entry_of(g, im, b, s);
+
+        *e |= UINT32_C(0x40000000);
+        seat(g, im, tb, ts, PASSING + number_of(*e));
+    }
+}
+
+static void take_blanks(struct shape g, uint32_t *im)
+{
+    for (uint32_t b = 0; b < g.b; b++)
+        if (count_kind(g, im, b, FREE) == d_of(g))
+            for (uint32_t i = 1 + below(d_of(g)); i > 0; i--)
+                seat(g, im, b, below(d_of(g)), dead_slot(g));
+}
+
+/* In each full block the range is right, or all ones for one or both. */
+static void upset_ranges(struct shape g, uint32_t *im)
+{
+    for (uint32_t b = 0; b < g.b; b++)
+        if (count_kind(g, im, b, FREE) == 0)
+            range(g, im, b, below(2) ? ONES : model_edge(g, im, b, false),
+                  below(2) ? ONES : model_edge(g, im, b, true));
+}
+
+/* Mostly faults that can be mended, and now and then any others. */
+static void upset(struct shape g, uint32_t *im)
+{
+    if (below(3) == 0)
+        take_blanks(g, im);
+    for (uint32_t i = below(4); i > 0; i--)
+        supersede(g, im);
+    upset_ranges(g, im);
+    for (uint32_t b = 0; b < g.b; b++) {
+        if (count_kind(g, im, b, FREE) == d_of(g) && below(3) == 0)
+            head_of(g, im, b)[0] = ONES;
+    }
+    if (below(4) == 0)
+        spoil(g, im);
+}
+
+/* All of a repair by steps, as for a write; then the whole of it is known to
+ * be sound. */
+static void repair_by_steps(struct order o, bool closely)
+{
+    uint32_t *model = copy_of(o.g, o.im), *im = copy_of(o.g, o.im);
+    uint32_t w, e;
+    uint32_t answer = model_repair(o.g, model, &w, &e);
+
+    met.answers[answer]++;
+    tally();
+    CHECK(do_repair(o.g, im) == answer && counts_are(w, e));
+    CHECK(same(o.g, im, model));
+    if (answer != 0) {
+        refuses_parts(o, answer);
+    } else {
+        CHECK(broken(o.g, im) == 0 && do_check(o.g, im) == 0);
+        if (closely) {
+            CHECK(keeps_map(o));
+            expect_row(o, 1 + below(40), __LINE__);
+        }
+    }
+    free(model);
+    free(im);
+}
+
+static void test_drawn_repairs(void)
+{
+    static const struct shape shapes[] = {
+        {2, 3, 1}, {3, 2, 1}, {3, 5, 7}, {4, 4, 8}, {4, 5, 6}, {6, 3, 9},
+        {3, 6, 4}, {5, 4, 6}, {3, 34, 60},
+    };
+
+    memset(&met, 0, sizeof met);
+    for (uint32_t round = 0; round < 2700; round++) {
+        struct shape g = shapes[round % 9];
+        struct order o = {g, lend(g), REPAIR, NULL};
+
+        draw_image(g, o.im);
+        upset(g, o.im);
+        repair_by_steps(o, round % 9 == 8 ? round % 540 == 8
+                                          : round % 9 == round / 9 % 9);
+        free(o.im);
+    }
+    CHECK(met.answers[0] > 500 && met.answers[4] > 200);
+    CHECK(met.answers[6] > 20 && met.answers[10] > 100);
+    CHECK(met.cleared > 300 && met.ranged > 300 && met.counted > 100);
+    CHECK(met.moved > 100 && met.filled > 50 && met.wiped_range > 100);
+}
+
+/* All of the smallest images, with counts drawn so that each of the four
+ * faults comes up with the others. */
+static void test_small_repairs(struct shape g)
+{
+    uint32_t *im = fresh(g), *model = lend(g);
+    uint32_t all = 1, w, e;
+
+    memset(&met, 0, sizeof met);
+    for (uint32_t p = 0; p < g.b * d_of(g); p++)
+        all *= SMALL_STATES;
+    for (uint32_t states = 0; states < all; states++) {
+        uint32_t answer;
+
+        small_image(g, im, states);
+        for (uint32_t b = 0; b < g.b; b++)
+            head_of(g, im, b)[0] = below(4) ? below(2) : below(2) ? ONES
+                                                                  : 1000000;
+        memcpy(model, im, len_of(g) * sizeof *im);
+        answer = model_repair(g, model, &w, &e);
+        met.answers[answer]++;
+        tally();
+        CHECK(do_repair(g, im) == answer && counts_are(w, e));
+        CHECK(same(g, im, model));
+        CHECK(do_format(g, im) == 0);
+    }
+    CHECK(met.answers[0] > 100 && met.answers[4] > 1000);
+    CHECK(met.cleared > 10 && met.ranged > 10 && met.counted > 5);
+    /* With one slot to a block and one number none is open, and not all of
+     * the slots can be live. */
+    CHECK(d_of(g) == 1 || (met.answers[10] > 10 && met.answers[6] > 10 &&
+                           met.moved > 10 && met.filled > 10));
+    free(im);
+    free(model);
+}
+
+static void test_repair(void)
+{
+    test_repair_of_sound();
+    test_mend_superseded();
+    test_mend_ranges();
+    test_mend_ranges_of_none();
+    test_mend_range_behind_superseded();
+    test_mend_count();
+    test_mend_blank();
+    test_mend_range_of_victim();
+    test_mend_without_copies();
+    test_mend_beside_open();
+    test_mend_victim_by_superseded();
+    test_mend_in_order();
+    test_repair_10();
+    test_repair_6();
+    test_repair_4_of_counts();
+    test_repair_4_beside_count();
+    test_repair_4_of_ranges();
+    test_repair_4_beside_others();
+    test_cuts();
+    test_cut_of_largest();
+    test_cuts_beyond();
+    test_drawn_repairs();
+    test_small_repairs((struct shape){3, 2, 1});
+    test_small_repairs((struct shape){2, 3, 1});
+}
+
 int main(void)
 {
     test_p1();
@@ -4439,6 +5726,7 @@ int main(void)
     test_tables();
     test_passing();
     test_steps();
+    test_repair();
     printf("%lu passed, %lu failed\n", passed, failed);
     return failed == 0 ? 0 : 1;
 }
