@@ -2,13 +2,14 @@
  *
  * A call runs on a stack of its own that was painted before, and the deepest word that lost its paint tells. The image is one on which
  * a write has to reclaim and to copy. The lookup table misleads for every number, so that a call that takes it looks there and then has
- * to search as well. The damaged image has one superseded slot, in the last block that is in use: rule 8 is the last one of a block. A step
- * call is made for many steps, and the deepest one tells. */
+ * to search as well. For a repair that write is cut while it copies, so that no block is blank. The damaged image has one superseded slot, in the
+ * last block that is in use: rule 8 is the last one of a block; and behind that a count that no repair mends. A step call is made for many steps,
+ * and the deepest one tells. */
 #include <ucontext.h>
 
 #include "images.h"
 
-enum { LIMIT = 4096, STACK_WORDS = 16384, NUMBER = 3, COPY_STEPS = 133 };
+enum { LIMIT = 4096, STACK_WORDS = 16384, NUMBER = 3, COPY_STEPS = 133, MENDED = 3 };
 static const uint32_t PAINT = 0xA5C3A5C3u;
 static const struct geometry g = {64, 64, 3968};
 
@@ -97,6 +98,39 @@ static void call_release_first(void)
     answer = shellwaltz_release_first(g.blocks, g.sectors, g.logical, image, words_of(g), NUMBER, UINT32_MAX, count, count + 1, bad, bad + 1);
 }
 
+static void call_repair(void)
+{
+    answer = shellwaltz_repair(g.blocks, g.sectors, g.logical, image, words_of(g), count, count + 1, bad, bad + 1);
+    if (answer == 0 && count[1] != 1)
+        fail("the repair did not empty a block");
+}
+
+static uint32_t kind_in_repair(uint32_t step)
+{
+    answer = shellwaltz_repair_step(g.blocks, g.sectors, g.logical, image, words_of(g), step, &kind, &place, &word, bad, bad + 1);
+    return kind;
+}
+
+/* Each step before the first copy and of it, the first one of every other, and all from the erasure on to one past the end. */
+static void call_repair_step(void)
+{
+    uint32_t step = 0;
+    while (kind_in_repair(step) == SHELLWALTZ_PROGRAM)
+        step += step < MENDED + COPY_STEPS ? 1 : COPY_STEPS;
+    if (answer == 0 && (step < MENDED + COPY_STEPS || kind != SHELLWALTZ_ERASE))
+        fail("the repair did not copy and empty a block");
+    do
+        step++;
+    while (kind_in_repair(step) != SHELLWALTZ_DONE);
+}
+
+static void call_repair_first(void)
+{
+    answer = shellwaltz_repair_first(g.blocks, g.sectors, g.logical, image, words_of(g), UINT32_MAX, count, count + 1, bad, bad + 1);
+    if (answer == 0 && count[1] != 1)
+        fail("the repair did not empty a block");
+}
+
 static void call_build_table(void)
 {
     answer = shellwaltz_build_table(g.blocks, g.sectors, g.logical, image, words_of(g), table, g.logical, bad, bad + 1);
@@ -131,10 +165,22 @@ static void make_table(void)
     table[g.logical - 1] = first;
 }
 
-/* Gives the last live slot of another number an entry in passing for NUMBER, which is complete elsewhere. */
+/* A write that reclaims is cut before the last step of its third copy, and a full block has not got its bounds: a repair has three words to
+ * program before it copies. */
+static void interrupt_write(void)
+{
+    if (shellwaltz_write_first(g.blocks, g.sectors, g.logical, image, words_of(g), NUMBER, buffer, SECTOR, 3 * COPY_STEPS - 1, count, count + 1,
+                               bad, bad + 1) != 0)
+        fail("the write was refused");
+    image[1] = image[2] = UINT32_MAX;
+}
+
+/* Gives the last live slot of another number an entry in passing for NUMBER, which is complete elsewhere; and the last block, which is blank, a
+ * count above the ceiling. */
 static void damage(void)
 {
     size_t entries = 3 + (g.sectors - 1 + 31) / 32;
+    image[(size_t)(g.blocks - 1) * g.sectors * SECTOR] = SHELLWALTZ_CEILING + 1;
     for (uint32_t b = g.blocks; b-- > 0;)
         for (uint32_t i = g.sectors - 1; i-- > 0;) {
             uint32_t *entry = image + (size_t)b * g.sectors * SECTOR + entries + i;
@@ -179,13 +225,17 @@ int main(void)
 {
     static const struct {
         const char *name;
-        void (*call)(void);
-    } calls[] = {{"format", call_format}, {"check", call_check}, {"report", call_report},
-                 {"read", call_read}, {"write with reclaim", call_write}, {"release", call_release},
-                 {"write_step with reclaim", call_write_step}, {"release_step", call_release_step},
-                 {"write_first with reclaim", call_write_first}, {"release_first", call_release_first},
-                 {"build_table", call_build_table}, {"read_with_table", call_read_with_table},
-                 {"write_with_table with reclaim", call_write_with_table}, {"release_with_table", call_release_with_table}};
+        void (*call)(void), (*before)(void);
+    } calls[] = {{"format", call_format, call_nothing}, {"check", call_check, call_nothing}, {"report", call_report, call_nothing},
+                 {"read", call_read, call_nothing}, {"write with reclaim", call_write, call_nothing}, {"release", call_release, call_nothing},
+                 {"repair that empties a block", call_repair, interrupt_write},
+                 {"write_step with reclaim", call_write_step, call_nothing}, {"release_step", call_release_step, call_nothing},
+                 {"repair_step that empties a block", call_repair_step, interrupt_write},
+                 {"write_first with reclaim", call_write_first, call_nothing}, {"release_first", call_release_first, call_nothing},
+                 {"repair_first that empties a block", call_repair_first, interrupt_write},
+                 {"build_table", call_build_table, call_nothing}, {"read_with_table", call_read_with_table, call_nothing},
+                 {"write_with_table with reclaim", call_write_with_table, call_nothing},
+                 {"release_with_table", call_release_with_table, call_nothing}};
     uint32_t *master = malloc(words_of(g) * sizeof *master);
     image = malloc(words_of(g) * sizeof *image);
     if (!master || !image)
@@ -196,6 +246,7 @@ int main(void)
     for (size_t i = 0; i < sizeof calls / sizeof *calls; i++) {
         memcpy(image, master, words_of(g) * sizeof *image);
         make_table();
+        calls[i].before();
         printf("| %s | %zu |", calls[i].name, within_limit(calls[i].call, 0));
         if (calls[i].call == call_format) {
             printf(" never |\n");

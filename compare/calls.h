@@ -73,19 +73,27 @@ enum call {
     RELEASE_STEP,
     WRITE_FIRST,
     RELEASE_FIRST,
+    REPAIR,
+    REPAIR_STEP,
+    REPAIR_FIRST,
     CALLS
 };
 static const char *const names[CALLS] = {"format",      "check",           "report",           "read",              "write", "release",
                                          "build_table", "read_with_table", "write_with_table", "release_with_table",
-                                         "write_step",  "release_step",    "write_first",      "release_first"};
+                                         "write_step",  "release_step",    "write_first",      "release_first",
+                                         "repair",      "repair_step",     "repair_first"};
 
 /* The calls that do the same without a table. Of a build that is a check: it looks at the whole image, and leaves it. */
 static const enum call without_table[CALLS] = {
     [BUILD_TABLE] = CHECK, [READ_WITH_TABLE] = READ, [WRITE_WITH_TABLE] = WRITE, [RELEASE_WITH_TABLE] = RELEASE};
 
 /* The calls whose steps are told, or done up to some number. */
-static const enum call whole_call[CALLS] = {
-    [WRITE_STEP] = WRITE, [RELEASE_STEP] = RELEASE, [WRITE_FIRST] = WRITE, [RELEASE_FIRST] = RELEASE};
+static const enum call whole_call[CALLS] = {[WRITE_STEP] = WRITE,       [RELEASE_STEP] = RELEASE,   [REPAIR_STEP] = REPAIR,
+                                            [WRITE_FIRST] = WRITE,      [RELEASE_FIRST] = RELEASE, [REPAIR_FIRST] = REPAIR};
+
+/* The calls that tell their steps, and that do the first of them. */
+static const enum call step_call[CALLS] = {[WRITE] = WRITE_STEP, [RELEASE] = RELEASE_STEP, [REPAIR] = REPAIR_STEP};
+static const enum call first_call[CALLS] = {[WRITE] = WRITE_FIRST, [RELEASE] = RELEASE_FIRST, [REPAIR] = REPAIR_FIRST};
 
 static bool takes_table(enum call c)
 {
@@ -94,17 +102,23 @@ static bool takes_table(enum call c)
 
 static bool tells_a_step(enum call c)
 {
-    return c == WRITE_STEP || c == RELEASE_STEP;
+    return c == WRITE_STEP || c == RELEASE_STEP || c == REPAIR_STEP;
 }
 
 static bool does_first_steps(enum call c)
 {
-    return c == WRITE_FIRST || c == RELEASE_FIRST;
+    return c == WRITE_FIRST || c == RELEASE_FIRST || c == REPAIR_FIRST;
 }
 
 static bool goes_by_steps(enum call c)
 {
     return tells_a_step(c) || does_first_steps(c);
+}
+
+/* A repair, whole or by steps. */
+static bool mends(enum call c)
+{
+    return c == REPAIR || c == REPAIR_STEP || c == REPAIR_FIRST;
 }
 
 static bool writes(enum call c)
@@ -144,7 +158,10 @@ static void call(const struct layer *layer, struct side *s, struct asked a)
         break;
     case RELEASE_STEP: answer = layer->release_step(b, p, l, image, words, i, a.step, &t->kind, &t->place, &t->word, bad, rule); break;
     case WRITE_FIRST: answer = layer->write_first(b, p, l, image, words, i, buffer, bw, a.step, n, n + 1, bad, rule); break;
-    default: answer = layer->release_first(b, p, l, image, words, i, a.step, n, n + 1, bad, rule); break;
+    case RELEASE_FIRST: answer = layer->release_first(b, p, l, image, words, i, a.step, n, n + 1, bad, rule); break;
+    case REPAIR: answer = layer->repair(b, p, l, image, words, n, n + 1, bad, rule); break;
+    case REPAIR_STEP: answer = layer->repair_step(b, p, l, image, words, a.step, &t->kind, &t->place, &t->word, bad, rule); break;
+    default: answer = layer->repair_first(b, p, l, image, words, a.step, n, n + 1, bad, rule); break;
     }
     s->answer = answer;
 }
@@ -163,8 +180,11 @@ static enum call some_name(struct geometry g)
         {WRITE_WITH_TABLE, WRITE_WITH_TABLE, WRITE_WITH_TABLE, WRITE_WITH_TABLE, WRITE_WITH_TABLE, WRITE_WITH_TABLE, READ_WITH_TABLE,
          READ_WITH_TABLE, READ_WITH_TABLE, RELEASE_WITH_TABLE, RELEASE_WITH_TABLE, BUILD_TABLE, BUILD_TABLE}};
     static const enum call by_steps[] = {WRITE_STEP, WRITE_STEP, RELEASE_STEP, WRITE_FIRST, WRITE_FIRST, RELEASE_FIRST};
+    static const enum call repairs[] = {REPAIR, REPAIR_STEP, REPAIR_FIRST};
     if (one_in(8))
         return by_steps[below(6)];
+    if (one_in(12))
+        return repairs[below(3)];
     bool with_table = one_in(words_of(g) <= SMALL_IMAGE ? 2 : 6);
     return one_in(300) ? FORMAT : often[with_table][below(13)];
 }

@@ -17,16 +17,21 @@
  * the library does without a table, and the table that follows from where the numbers were and are; and a right table has to be the
  * one that the library builds afresh.
  *
- * Some calls go by steps: they tell one step of a write or a release, or do its first steps only, with any number of them. There the third
- * opinion is the whole call, of which they have to refuse what it refuses. And through some writes, with reclaims among them, and some releases
- * there is a walk (walks.h): every step is asked for, and carrying them all out has to leave and count what the whole call does; and some of
- * these are cut after every number of steps, where both sides have to leave what carrying those out leaves. Other calls are made on the
- * images on the way, now and then.
+ * Some calls go by steps: they tell one step of a write, a release or a repair, or do its first steps only, with any number of them. There the
+ * third opinion is the whole call, of which they have to refuse what it refuses. And through some writes, with reclaims among them, and some
+ * releases and repairs there is a walk (walks.h): every step is asked for, and carrying them all out has to leave and count what the whole call
+ * does; and some of these are cut after every number of steps, where both sides have to leave what carrying those out leaves. Other calls are made
+ * on the images on the way, now and then.
+ *
+ * What a repair has to do is worked out here as well (mending.h), and held against each. There are repairs of well-formed images, of damaged
+ * ones, of such with planted faults that can be mended or cannot; and of images that a call has left that was cut, and repairs after it that were
+ * cut as well (repairs.h). There all numbers have to read as before that call or as after it, at least 100,000 times.
  *
  * At the first difference it prints both, the call and the first word that differs, and fails. At the end it fails too where some
  * refusal of some call, some rule that a call can name, some way that a fault can be planted or that planted faults can hide one another, some
- * kind of table in some accepted call, something that an early end leaves, some place of a step in its list, some kind of walk, or an erasure,
- * never came about, or too few steps, reclaims and cuts did: then the inputs have missed it.
+ * kind of table in some accepted call, something that an early end leaves, some place of a step in its list, some kind of walk, something that
+ * a repair can have to do or to refuse, some kind of cut, or an erasure, never came about, or too few steps, reclaims and cuts did: then the inputs
+ * have missed it.
  *
  * The tests of this test, each of which must find what is changed: compiled with -DSPOIL it changes one word after some calls; with
  * -DSPOIL_PAIR=bad_block or -DSPOIL_PAIR=bad_rule that number of the second side, after some calls that answered 4; and with
@@ -35,7 +40,10 @@
  * and with -DSPOIL_WITH_TABLE=PART that part of both sides, after calls with a table. With -DSPOIL_STEP=PART it changes the kind, the place
  * or the word of a step that the second side tells; with -DSPOIL_BOTH_STEPS=PART that of both sides, in a walk; with -DSPOIL_FIRST the second
  * side's image after some first steps; with -DSPOIL_ONE_MORE=CONDITION both sides do one step too many, where the condition holds; and with
- * -DSPOIL_BY_STEPS=PART it changes that part of both sides, after calls by steps that are not of a walk. */
+ * -DSPOIL_BY_STEPS=PART it changes that part of both sides, after calls by steps that are not of a walk. With -DSPOIL_REPAIR=PART it changes
+ * that part of the second side after repairs, and with -DSPOIL_BOTH_REPAIRS=PART of both; with -DSPOIL_SECTOR both sides lose a sector in a repair
+ * after cuts, and with -DSPOIL_COUNT a count; with -DSPOIL_ALLOWED it takes one cut more for allowed than is; and with -DSPOIL_MENDABLE=CONDITION
+ * it takes planted faults for such that can be mended or cannot, where the condition holds. */
 #define _POSIX_C_SOURCE 200809L
 #include <stdbool.h>
 #include <stdio.h>
@@ -43,7 +51,7 @@
 #include <string.h>
 #include <time.h>
 
-#include "walks.h"
+#include "repairs.h"
 
 enum { SHORT_RUN = 48, LONG_RUN = 1500 };
 
@@ -55,6 +63,9 @@ static const struct geometry geometries[] = {
     {32, 32, 900}, {32, 33, 991}, {64, 33, 1000}, {33, 64, 2015}, {64, 64, 1000}, {64, 64, 3968},
 };
 enum { GEOMETRIES = sizeof geometries / sizeof *geometries, LEAST_ROUNDS = 4 * GEOMETRIES };
+
+/* In the stories of a round (repairs.h): the least rounds make as many as there have to be, and those after them some more. */
+enum { CUTS = 1 + LEAST_CUTS_IN_STORIES / LEAST_ROUNDS, FEWER_CUTS = 300 };
 
 /* Calls on an image that one or two words of damage were done to, and back. */
 static void on_a_damaged_image(struct geometry g, uint32_t *kept)
@@ -71,21 +82,6 @@ static void on_a_damaged_image(struct geometry g, uint32_t *kept)
     copy_over(n);
 }
 
-/* The third opinion: what was planted says what a call that answers 4 has to name. */
-static void hold_against(const struct planting *planted, struct asked a)
-{
-    const struct fault *first = first_fault(planted);
-#ifdef SPOIL_BOTH
-    if (one_in(20))
-        theirs.SPOIL_BOTH = ours.SPOIL_BOTH ^= 1;
-#endif
-    if (ours.answer == SHELLWALTZ_MALFORMED && ours.bad_block == first->block && ours.bad_rule == first->rule)
-        return;
-    show_named("not what the planted faults say", a);
-    show_faults(planted);
-    exit(1);
-}
-
 /* Calls on an image that faults were planted in, and back. With another L other entries are live and faulty, and such a call may be accepted,
  * as a format is: then the image may be another one, and the planted faults say nothing of it. */
 static void on_a_faulty_image(struct geometry g, uint32_t *kept)
@@ -99,12 +95,15 @@ static void on_a_faulty_image(struct geometry g, uint32_t *kept)
     compare_call(a, g);
     hold_against(&planted, a);
     count_faults(&planted);
+    bool mendable = is_mendable(&planted);
     for (int i = 0; i < 3 && ours.answer != SHELLWALTZ_OK; i++) {
         a = some_call_here(g);
         call_number++;
         compare_call(a, g);
         if (ours.answer == SHELLWALTZ_MALFORMED && a.g.logical == g.logical)
             hold_against(&planted, a);
+        if (mends(a.call) && ours.answer != SHELLWALTZ_BAD_GEOMETRY && a.g.logical == g.logical)
+            hold_repair_against(&planted, a, mendable);
     }
     memcpy(ours.image, kept, n * sizeof *kept);
     copy_over(n);
@@ -190,21 +189,33 @@ static void one_round(uint32_t *kept)
     }
     for (int walks = n <= SMALL_IMAGE ? 8 : 2; walks > 0; walks--)
         walk_through_a_reclaim(g);
+    if (one_in(n <= SMALL_IMAGE ? 2 : 8))
+        tell_stories(g);
+    make_cuts(round_number < LEAST_ROUNDS ? CUTS : FEWER_CUTS);
 }
 
-/* Whether the call was accepted and was refused in every way that its row of the table has and, if it answers 4, has named every rule. */
+/* Whether the call has named every rule. Where R6 is the pair nothing else is wrong, and a repair does not refuse with 4. */
+static bool show_named_rules(enum call c)
+{
+    bool complete = show_counts(" |", named[c] + 1, 5);
+    complete &= show_counts("", named[c] + 6, 1) != mends(c);
+    return complete & show_counts("", named[c] + 7, 2);
+}
+
+/* Whether the call was accepted and was refused in every way that its row of the table has and, if it answers 4, has named what it can. */
 static bool show_row(enum call c)
 {
     static const char *const rows[CALLS] = {"01", "014", "014", "012345", "012346", "01345", "0124", "012345", "012346", "012345",
-                                           "012346", "01345", "012346", "01345"};
+                                           "012346", "01345", "012346", "01345", "0146A", "0146A", "0146A"};
+    static const char answers[] = "0123456789A"; /* A: 10 */
     bool complete = true;
     printf("  %-18s", names[c]);
     for (int r = 0; r < ANSWERS; r++) {
         printf(" %lu", seen[c][r]);
-        complete &= (strchr(rows[c], '0' + r) != NULL) == (seen[c][r] > 0);
+        complete &= (strchr(rows[c], answers[r]) != NULL) == (seen[c][r] > 0);
     }
     if (strchr(rows[c], '4'))
-        complete &= show_counts(" |", named[c] + 1, RULES);
+        complete &= show_named_rules(c);
     puts(complete ? "" : " <- an answer or a rule that never came about, or an answer that the call does not have");
     return complete;
 }
@@ -219,6 +230,8 @@ static void all_came_about(void)
     complete &= show_what_was_met_with();
     complete &= show_where_asked();
     complete &= show_walks();
+    complete &= show_repairs();
+    complete &= show_stories();
     if (!complete)
         fail("the inputs have missed something");
     if (erasures == 0)
@@ -242,10 +255,13 @@ int main(int argc, char **argv)
     before = make_words(longest, sizeof *before);
     walk.start = make_words(longest, sizeof *walk.start);
     walk.image = make_words(longest, sizeof *walk.image);
+    mending.image = make_words(longest, sizeof *mending.image);
+    story.start = make_words(longest, sizeof *story.start);
+    story.middle = make_words(longest, sizeof *story.middle);
     uint32_t *kept = make_words(longest, sizeof *kept);
     for (round_number = 0; round_number < rounds && (round_number < LEAST_ROUNDS || time(NULL) < end); round_number++)
         one_round(kept);
-    printf("compare: seed %llu, %u rounds over %d geometries, %lu calls alike, %lu erasures; calls by answer 0 to 6 | by rule 1 to 8:\n",
+    printf("compare: seed %llu, %u rounds over %d geometries, %lu calls alike, %lu erasures; calls by answer 0 to 10 | by rule 1 to 8:\n",
            (unsigned long long)seed, round_number, (int)GEOMETRIES, compared, erasures);
     all_came_about();
     return 0;

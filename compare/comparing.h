@@ -8,10 +8,9 @@
 #include <string.h>
 
 #include "came_about.h"
-#include "passing.h"
-#include "steps.h"
+#include "mending.h"
 
-enum { ANSWERS = 7 };
+enum { ANSWERS = SHELLWALTZ_NO_ROOM + 1 };
 enum { RUBBISH = 77 }; /* what a call finds where it is to put a number: neither a block nor a rule */
 
 static struct side ours, theirs, wanted; /* the library, the second implementation, and what a third opinion wants of a call */
@@ -256,6 +255,44 @@ static void hold_against_whole_call(struct asked a, size_t n)
         asked_at[a.call][where_in_list(a.step, steps)]++;
 }
 
+/* What a repair has to answer: what a check does where that refuses the geometry, or refuses the image and so does the repair, with the same
+ * pair; and else what is worked out here. Of a refused repair no step is left. */
+static void want_answer_of_repair(struct asked a)
+{
+    wanted.answer = library.check(a.g.blocks, a.g.sectors, a.g.logical, before, a.image_words, &wanted.bad_block, &wanted.bad_rule);
+    mending.steps = 0;
+    if (wanted.answer == SHELLWALTZ_BAD_GEOMETRY || (wanted.answer == SHELLWALTZ_MALFORMED && ours.answer == SHELLWALTZ_MALFORMED))
+        return;
+    work_out_mending(a.g, before);
+    wanted.answer = mending.answer;
+    wanted.bad_block = wanted.bad_rule = 0;
+}
+
+/* The image and the counts of a repair, or of its first steps. */
+static void want_steps_of_repair(struct asked a)
+{
+    uint32_t done = a.call == REPAIR_FIRST && a.step < mending.steps ? a.step : mending.steps;
+    wanted.count[0] = wanted.count[1] = 0;
+    for (uint32_t i = 0; i < done; i++) {
+        carry_out(a.g, wanted.image, mending.list[i]);
+        wanted.count[mending.list[i].kind == SHELLWALTZ_ERASE]++;
+    }
+}
+
+static void hold_against_mending(struct asked a, size_t n)
+{
+    want_answer_of_repair(a);
+    memcpy(wanted.image, before, n * sizeof *before);
+    if (a.call == REPAIR_STEP)
+        wanted.step = a.step < mending.steps ? mending.list[a.step] : no_step;
+    else
+        want_steps_of_repair(a);
+    if (!are_alike(a, n, &wanted))
+        show_difference("not what a repair has to do", a, n, &wanted);
+    if (ours.answer != SHELLWALTZ_BAD_GEOMETRY && ours.answer != SHELLWALTZ_MALFORMED)
+        count_repair(a.call, a.step);
+}
+
 static void count_table(struct asked a)
 {
     static const enum deed deeds[CALLS] = {[BUILD_TABLE] = BUILT, [READ_WITH_TABLE] = READ_IT, [RELEASE_WITH_TABLE] = RELEASED};
@@ -275,7 +312,7 @@ static void count_call(struct asked a)
         erasures += ours.count[1];
     if (takes_table(a.call))
         count_table(a);
-    if (ours.answer == SHELLWALTZ_OK)
+    if (ours.answer == SHELLWALTZ_OK && !mends(a.call))
         count_accepted(a, before, &ours, &lent);
 }
 
@@ -306,8 +343,14 @@ static void spoil(struct asked a, size_t n)
     if (takes_table(a.call) && one_in(20))
         theirs.SPOIL_WITH_TABLE = ours.SPOIL_WITH_TABLE ^= 1;
 #endif
+}
+
+/* Likewise, of calls by steps and of repairs. */
+static void spoil_steps(struct asked a, size_t n)
+{
+    (void)a, (void)n;
 #ifdef SPOIL_BY_STEPS
-    if (goes_by_steps(a.call) && !walking && one_in(20))
+    if (goes_by_steps(a.call) && !mends(a.call) && !walking && one_in(20))
         theirs.SPOIL_BY_STEPS = ours.SPOIL_BY_STEPS ^= 1;
 #endif
 #ifdef SPOIL_STEP
@@ -317,6 +360,14 @@ static void spoil(struct asked a, size_t n)
 #ifdef SPOIL_BOTH_STEPS
     if (tells_a_step(a.call) && walking && one_in(500))
         theirs.step.SPOIL_BOTH_STEPS = ours.step.SPOIL_BOTH_STEPS ^= 1;
+#endif
+#ifdef SPOIL_REPAIR
+    if (mends(a.call) && one_in(50))
+        theirs.SPOIL_REPAIR ^= 1;
+#endif
+#ifdef SPOIL_BOTH_REPAIRS
+    if (mends(a.call) && one_in(50))
+        theirs.SPOIL_BOTH_REPAIRS = ours.SPOIL_BOTH_REPAIRS ^= 1;
 #endif
 #ifdef SPOIL_FIRST
     if (does_first_steps(a.call) && one_in(500))
@@ -341,6 +392,7 @@ static void call_both(struct asked a, size_t n)
     call(&library, &ours, made);
     call(&second, &theirs, made);
     spoil(a, n);
+    spoil_steps(a, n);
     if (!are_alike(a, n, &theirs))
         show_difference("difference", a, n, &theirs);
     if (ours.answer >= ANSWERS)
@@ -362,6 +414,8 @@ static void compare_call(struct asked a, struct geometry g)
     call_both(a, n);
     if (takes_table(a.call))
         hold_against_wanted(a, n);
+    if (mends(a.call))
+        hold_against_mending(a, n);
     if (goes_by_steps(a.call))
         hold_against_whole_call(a, n);
     count_call(a);
@@ -379,6 +433,21 @@ static struct asked some_call_here(struct geometry g)
 static void copy_over(size_t n)
 {
     memcpy(theirs.image, ours.image, n * sizeof *ours.image);
+}
+
+/* The third opinion on an image with planted faults: they say what a call that answers 4 has to name. */
+static void hold_against(const struct planting *planted, struct asked a)
+{
+    const struct fault *first = first_fault(planted);
+#ifdef SPOIL_BOTH
+    if (one_in(20))
+        theirs.SPOIL_BOTH = ours.SPOIL_BOTH ^= 1;
+#endif
+    if (ours.answer == SHELLWALTZ_MALFORMED && ours.bad_block == first->block && ours.bad_rule == first->rule)
+        return;
+    show_named("not what the planted faults say", a);
+    show_faults(planted);
+    exit(1);
 }
 
 #endif

@@ -1,4 +1,4 @@
-/* The library and the second implementation side by side: the same fourteen calls, with the same parameters. */
+/* The library and the second implementation side by side: the same seventeen calls, with the same parameters. */
 #ifndef LAYERS_H
 #define LAYERS_H
 
@@ -29,6 +29,10 @@ struct layer {
                             uint32_t *, uint32_t *, uint32_t *);
     uint32_t (*release_first)(uint32_t, uint32_t, uint32_t, uint32_t *, size_t, uint32_t, uint32_t, uint32_t *, uint32_t *, uint32_t *,
                               uint32_t *);
+    uint32_t (*repair)(uint32_t, uint32_t, uint32_t, uint32_t *, size_t, uint32_t *, uint32_t *, uint32_t *, uint32_t *);
+    uint32_t (*repair_step)(uint32_t, uint32_t, uint32_t, const uint32_t *, size_t, uint32_t, uint32_t *, size_t *, uint32_t *, uint32_t *,
+                            uint32_t *);
+    uint32_t (*repair_first)(uint32_t, uint32_t, uint32_t, uint32_t *, size_t, uint32_t, uint32_t *, uint32_t *, uint32_t *, uint32_t *);
 };
 
 /* The second implementation gives the place of a step in 32 bits. */
@@ -53,6 +57,16 @@ static inline uint32_t second_release_step_at(uint32_t blocks, uint32_t sectors,
     return answer;
 }
 
+static inline uint32_t second_repair_step_at(uint32_t blocks, uint32_t sectors, uint32_t logical, const uint32_t *image, size_t image_words,
+                                             uint32_t step, uint32_t *kind, size_t *place, uint32_t *word, uint32_t *bad_block,
+                                             uint32_t *bad_rule)
+{
+    uint32_t narrow = (uint32_t)*place;
+    uint32_t answer = second_repair_step(blocks, sectors, logical, image, image_words, step, kind, &narrow, word, bad_block, bad_rule);
+    *place = narrow;
+    return answer;
+}
+
 static const struct layer library = {
     shellwaltz_format,           shellwaltz_check,
     shellwaltz_report,           shellwaltz_read,
@@ -61,6 +75,8 @@ static const struct layer library = {
     shellwaltz_write_with_table, shellwaltz_release_with_table,
     shellwaltz_write_step,       shellwaltz_release_step,
     shellwaltz_write_first,      shellwaltz_release_first,
+    shellwaltz_repair,           shellwaltz_repair_step,
+    shellwaltz_repair_first,
 };
 static const struct layer second = {
     second_format,           second_check,
@@ -70,6 +86,8 @@ static const struct layer second = {
     second_write_with_table, second_release_with_table,
     second_write_step_at,    second_release_step_at,
     second_write_first,      second_release_first,
+    second_repair,           second_repair_step_at,
+    second_repair_first,
 };
 
 struct geometry {

@@ -1,4 +1,4 @@
-/* The steps of a write or a release: which ones to ask for, and what each does to an image. Carrying them out is done here, by the two kinds of step
+/* The steps of a write, a release or a repair: which ones to ask for, and what each does to an image. Carrying them out is done here, by the two kinds of step
  * alone, so this is an opinion on a list of steps that neither implementation has a part in. */
 #ifndef STEPS_H
 #define STEPS_H
@@ -66,11 +66,13 @@ static int where_in_list(uint32_t step, uint32_t steps)
 /* Prints how often each came about; whether all did. A release has one step. */
 static bool show_where_asked(void)
 {
-    static const char *const calls[] = {" write_step", "; release_step", "; write_first", "; release_first"};
+    static const enum call calls[] = {WRITE_STEP, RELEASE_STEP, WRITE_FIRST, RELEASE_FIRST, REPAIR_STEP, REPAIR_FIRST};
     bool complete = true;
     printf("  by steps, at the last, the end, beyond, all ones, 0, between:");
-    for (int c = WRITE_STEP; c <= RELEASE_FIRST; c++)
-        complete &= show_counts(calls[c - WRITE_STEP], asked_at[c], whole_call[c] == RELEASE ? OF_A_RELEASE : WHERES);
+    for (int i = 0; i < 6; i++) {
+        printf("%s %s", i == 0 ? "" : ";", names[calls[i]]);
+        complete &= show_counts("", asked_at[calls[i]], whole_call[calls[i]] == RELEASE ? OF_A_RELEASE : WHERES);
+    }
     puts(complete ? "" : " <- a 0: steps that were never asked for");
     return complete;
 }

@@ -1,4 +1,4 @@
-/* Walks through a write or a release, step by step: each of its steps is asked of both sides, from the image before it, and carried out on an
+/* Walks through a write, a release or a repair, step by step: each of its steps is asked of both sides, from the image before it, and carried out on an
  * image, which has to become what the whole call leaves. Then some are cut everywhere: after any number of steps both sides have to leave
  * what carrying these out leaves. Such an image is none that a call finds otherwise, so other calls are made on it. */
 #ifndef WALKS_H
@@ -6,7 +6,7 @@
 
 #include "comparing.h"
 
-enum { MOST_STEPS = 62 * 133 + 2 + 135 }; /* 62 sectors are copied, the block is erased and counted, and the sector placed */
+enum { MOST_STEPS = MOST_MENDING }; /* a write has fewer: 62 sectors are copied, the block is erased and counted, and the sector placed */
 enum { CHEAP_WALK = 1 << 22 };            /* words of the images of all steps, in a walk that takes next to no time */
 enum { LEAST_STEPS = 100000, LEAST_RECLAIMS = 100, LEAST_CUTS = 10000 };
 
@@ -21,8 +21,9 @@ static struct {
 
 /* ---- Counting */
 
-/* What was walked through: a release; a write without a reclaim; and with one that copies nothing, one sector, and several. */
-enum { A_RELEASE, NO_RECLAIM, COPIES_NONE, COPIES_ONE, COPIES_SEVERAL, WALKS };
+/* What was walked through: a release; a write without a reclaim; and with one that copies nothing, one sector, and several; and a repair that
+ * empties no block, and that empties one. */
+enum { A_RELEASE, NO_RECLAIM, COPIES_NONE, COPIES_ONE, COPIES_SEVERAL, A_REPAIR, EMPTIES_A_BLOCK, WALKS };
 
 static struct {
     unsigned long through[WALKS], cut[WALKS];
@@ -34,6 +35,8 @@ static int kind_of_walk(enum call tells, const uint32_t *count)
 {
     if (tells == RELEASE_STEP)
         return A_RELEASE;
+    if (tells == REPAIR_STEP)
+        return count[1] == 0 ? A_REPAIR : EMPTIES_A_BLOCK;
     if (count[1] == 0)
         return NO_RECLAIM;
     return count[0] < 2 * SECTOR ? COPIES_NONE : count[0] < 3 * SECTOR ? COPIES_ONE : COPIES_SEVERAL;
@@ -45,7 +48,8 @@ static bool show_walks(void)
 {
     unsigned long reclaims = walked.through[COPIES_NONE] + walked.through[COPIES_ONE] + walked.through[COPIES_SEVERAL];
     bool enough = walked.steps >= LEAST_STEPS && reclaims >= LEAST_RECLAIMS && walked.cuts >= LEAST_CUTS;
-    enough &= show_counts("  walked through: releases, writes without a reclaim, with one of no, one, several copies", walked.through, WALKS);
+    enough &= show_counts("  walked through: releases, writes without a reclaim, with one of no, one, several copies, repairs, that empty a block",
+                          walked.through, WALKS);
     printf("; %lu steps, %lu reclaims", walked.steps, reclaims);
     enough &= show_counts("\n  of these cut everywhere", walked.cut, WALKS);
     printf("; %lu cuts", walked.cuts);
@@ -146,14 +150,14 @@ static void call_on_the_way(struct asked a)
 /* The image may be well formed or not: the calls are accepted, or refused with what is wrong with it. */
 static void stop_on_the_way(void)
 {
-    static const enum call calls[] = {REPORT, READ, WRITE, RELEASE, BUILD_TABLE};
+    static const enum call calls[] = {REPORT, READ, WRITE, RELEASE, BUILD_TABLE, REPAIR};
     walking = false;
     call_on_the_way(sound_call_on_the_way(CHECK));
     if (ours.answer == SHELLWALTZ_OK)
         walked.well_formed++;
     else
         walked.breaks[ours.bad_rule]++;
-    for (int i = 0; i < 5; i++)
+    for (int i = 0; i < 6; i++)
         call_on_the_way(sound_call_on_the_way(calls[i]));
     call_on_the_way(some_call_here(walk.g));
     walking = true;
@@ -200,7 +204,8 @@ static void cut_everywhere(void)
 
 /* ---- Which calls */
 
-/* A write or a release of the image that both sides have, and back. Only if it is accepted; and a walk that takes long is rarer. */
+/* A write, a release or a repair of the image that both sides have, and back. Only if it is accepted and has a step; and a walk that takes long
+ * is rarer. */
 static void walk_through(struct asked a)
 {
     size_t n = words_of(a.g);
@@ -209,10 +214,10 @@ static void walk_through(struct asked a)
     memcpy(walk.buffer, ours.buffer, sizeof walk.buffer);
     walk.g = a.g;
     walk.tells = walk.does = a;
-    walk.tells.call = a.call == WRITE ? WRITE_STEP : RELEASE_STEP;
-    walk.does.call = a.call == WRITE ? WRITE_FIRST : RELEASE_FIRST;
+    walk.tells.call = step_call[a.call];
+    walk.does.call = first_call[a.call];
     walk.steps = do_whole_call(walk.tells, walk.start, n);
-    if (wanted.answer != SHELLWALTZ_OK || !one_in(1 + (uint32_t)(n * walk.steps / CHEAP_WALK)))
+    if (walk.steps == 0 || !one_in(1 + (uint32_t)(n * walk.steps / CHEAP_WALK)))
         return;
     if (walk.steps > MOST_STEPS)
         fail("more steps than a call can have");

@@ -6,9 +6,9 @@
  * than 4 KiB of stack.
  *
  * The image is memory, a mirror of the part. A call's contract fixes the image that the call leaves, and not the stores on the way, so a
- * store is not the programming of a word: of an accepted call the driver carries the changes over to the part (docs/USING.md). Of a write
- * or a release the step calls tell them, word by word and in their order. docs/FORMAT.md says what the words of an image mean and what
- * each call does.
+ * store is not the programming of a word: of an accepted call the driver carries the changes over to the part (docs/USING.md). Of a write,
+ * a release or a repair the step calls tell them, word by word and in their order. docs/FORMAT.md says what the words of an image mean and
+ * what each call does.
  *
  * The header has two layers. First the proved functions, with every part of what they take and give as a parameter. Below them, and
  * shorter to call, functions over a struct for the part and results by value; they only pass on (see "The short calls").
@@ -17,9 +17,9 @@
  * the length handed in with it (also where that is 0), and a pointer to a single number for one of its type. What a call writes (an image,
  * buffer or table that is not const, and the numbers) must overlap with nothing else that is handed to it. Lengths are in words, not bytes.
  *
- * What comes back: SHELLWALTZ_OK, or the first refusal below that applies, in the order of their numbers. A refused call changes no
- * word of the image, none of the buffer and none of the table, and gives 0 for every count and no step. So a call either does all of its
- * work or none.
+ * What comes back: SHELLWALTZ_OK, or the first refusal below that applies, in the order of their numbers; but a repair asks for 10 before
+ * it asks for 6. A refused call changes no word of the image, none of the buffer and none of the table, and gives 0 for every count and no
+ * step. So a call either does all of its work or none.
  *
  * SHELLWALTZ_MALFORMED comes with the block and the rule (1 to 8, docs/FORMAT.md) that fail first: blocks in ascending order, and within a
  * block its rules in the order of their numbers. A number that is stored in two slots is charged to the block of the later one. Rule 6, that
@@ -59,7 +59,8 @@ extern "C" {
 #define SHELLWALTZ_BAD_NUMBER 3u   /* the number is not below `logical` */
 #define SHELLWALTZ_MALFORMED 4u    /* the image breaks a rule of the format */
 #define SHELLWALTZ_UNMAPPED 5u     /* nothing is stored under the number */
-#define SHELLWALTZ_WORN_OUT 6u     /* the write would erase a block that is at the ceiling */
+#define SHELLWALTZ_WORN_OUT 6u     /* the write or the repair would erase a block that is at the ceiling */
+#define SHELLWALTZ_NO_ROOM 10u     /* the repair is to empty a block, and has none to empty or no room for what is stored there */
 
 /* The kinds of step. */
 #define SHELLWALTZ_DONE 0u    /* no step: the call has no more, or is refused */
@@ -97,6 +98,18 @@ uint32_t shellwaltz_write(uint32_t blocks, uint32_t sectors, uint32_t logical, u
 uint32_t shellwaltz_release(uint32_t blocks, uint32_t sectors, uint32_t logical, uint32_t *image, size_t image_words,
                             uint32_t number, uint32_t *words, uint32_t *erasures, uint32_t *bad_block, uint32_t *bad_rule);
 
+/* Brings an image back into order that a cut of the supply has left between two steps of a write, a release or a repair. It makes superseded
+ * slots dead, gives a full block its words 1 and 2 and a blank one its erase count, and where no block is blank it empties one into another
+ * and erases it. What is stored stays as it is: under the number of a call that was cut, what was stored before it or what it was to leave.
+ * A well-formed image is accepted and left as it is. Refuses 1, 4, 10 and 6, in this order: 4 where anything else is wrong with the image, with
+ * the block and the rule that a check names; 10 where no block is full, or where the first block with some slots free and some not has fewer of
+ * them than the block to be emptied has stored sectors. Gives the words that it programmed and the blocks that it erased (0 or 1).
+ *
+ * A write or a release of a well-formed image may be cut after any step, and the repairs after it too: as long as there were not more cuts
+ * since the last erasure than dead slots that a victim has at least (g of docs/FORMAT.md, which is 1 or more), the next repair is accepted. */
+uint32_t shellwaltz_repair(uint32_t blocks, uint32_t sectors, uint32_t logical, uint32_t *image, size_t image_words,
+                           uint32_t *words, uint32_t *erasures, uint32_t *bad_block, uint32_t *bad_rule);
+
 /* ---- The same with a lookup table, which spares a call the search for its sector. The caller lends `logical` words of 16 bits; for each
  * number the word is block * (sectors - 1) + slot, or SHELLWALTZ_NOWHERE. (A call still checks the whole image first; docs/BENCHMARKS.md
  * says what the search costs beside that.)
@@ -104,7 +117,7 @@ uint32_t shellwaltz_release(uint32_t blocks, uint32_t sectors, uint32_t logical,
  * Nothing is taken on trust: whatever the table holds, what a call answers, counts and leaves of image and buffer is what the call without a
  * table gives, and a table of another length than `logical` is refused with 2. Accepted calls keep a right table right. A wrong one costs time
  * and nothing else: an accepted write sets the words of its number and of those that it had to move, a release that of its number, and all
- * others stay. After a format, and after a write or a release without the table, build it anew. */
+ * others stay. After a format or a repair, and after a write or a release without the table, build it anew. */
 
 /* Builds the table, whatever it holds. Refuses 1, 2 and 4. Changes no word of the image. */
 uint32_t shellwaltz_build_table(uint32_t blocks, uint32_t sectors, uint32_t logical, const uint32_t *image, size_t image_words,
@@ -125,8 +138,8 @@ uint32_t shellwaltz_release_with_table(uint32_t blocks, uint32_t sectors, uint32
                                        uint32_t number, uint16_t *table, size_t table_words, uint32_t *words, uint32_t *erasures,
                                        uint32_t *bad_block, uint32_t *bad_rule);
 
-/* ---- A write and a release step by step. Each is a list of steps, in a fixed order: a step programs a word, in which bits are cleared and
- * none is set, or erases a block, of which every word is all ones then. docs/FORMAT.md has the lists.
+/* ---- A write, a release and a repair step by step. Each is a list of steps, in a fixed order: a step programs a word, in which bits are
+ * cleared and none is set, or erases a block, of which every word is all ones then. docs/FORMAT.md has the lists.
  *
  * A step call is for the driver: it tells one step of the call on this image, so that the call can be carried out on the part, one word or
  * block at a time, before it is done on the mirror. It changes nothing. Ask for step 0, 1, 2 and so on, with the same image, number and buffer,
@@ -148,6 +161,10 @@ uint32_t shellwaltz_release_step(uint32_t blocks, uint32_t sectors, uint32_t log
                                  uint32_t number, uint32_t step, uint32_t *kind, size_t *place, uint32_t *word,
                                  uint32_t *bad_block, uint32_t *bad_rule);
 
+/* Step `step`, from 0, of shellwaltz_repair. Refuses 1, 4, 10 and 6. Changes no word of the image. */
+uint32_t shellwaltz_repair_step(uint32_t blocks, uint32_t sectors, uint32_t logical, const uint32_t *image, size_t image_words,
+                                uint32_t step, uint32_t *kind, size_t *place, uint32_t *word, uint32_t *bad_block, uint32_t *bad_rule);
+
 /* The calls for the first steps carry these out on the image: `most` of them, which may be any number, or all where there are fewer. They
  * refuse what the whole call refuses. *words and *erasures count what was done, and not what the whole call would do. After fewer than all
  * steps the image is that of a part whose supply was cut after the last of them, and it need not be well formed. They take no table: after one,
@@ -163,8 +180,13 @@ uint32_t shellwaltz_release_first(uint32_t blocks, uint32_t sectors, uint32_t lo
                                   uint32_t number, uint32_t most, uint32_t *words, uint32_t *erasures,
                                   uint32_t *bad_block, uint32_t *bad_rule);
 
+/* The first steps of shellwaltz_repair. Refuses 1, 4, 10 and 6. */
+uint32_t shellwaltz_repair_first(uint32_t blocks, uint32_t sectors, uint32_t logical, uint32_t *image, size_t image_words,
+                                 uint32_t most, uint32_t *words, uint32_t *erasures, uint32_t *bad_block, uint32_t *bad_rule);
+
 /* ---- The short calls: each passes the part and its own arguments on to the proved function of the same name, and nothing else; a read, a
- * write or a release of a part that has a lookup table, to the one with a table. (Step by step there is none: the table stays as it is.)
+ * write or a release of a part that has a lookup table, to the one with a table. (Of a repair, and step by step, there is none: the table stays
+ * as it is.)
  * A buffer is always 128 words here. What is said above of pointers holds of the part's image and table as well. */
 
 /* A part: its geometry, the image that mirrors it, and its lookup table, if it has one (else `table` is a null pointer). SHELLWALTZ_PART
@@ -273,6 +295,15 @@ static inline struct shellwaltz_result shellwaltz_part_release(const struct shel
     return r;
 }
 
+/* The part's table is to be built anew after it. */
+static inline struct shellwaltz_result shellwaltz_part_repair(const struct shellwaltz_part *part)
+{
+    struct shellwaltz_result r = {0, 0, 0, 0, 0};
+    r.answer = shellwaltz_repair(part->blocks, part->sectors, part->logical, part->image, part->image_words, &r.words, &r.erasures,
+                                 &r.bad_block, &r.bad_rule);
+    return r;
+}
+
 /* Of the write from these 128 words. */
 static inline struct shellwaltz_step shellwaltz_part_write_step(const struct shellwaltz_part *part, uint32_t number, const uint32_t *buffer,
                                                                 uint32_t step)
@@ -288,6 +319,14 @@ static inline struct shellwaltz_step shellwaltz_part_release_step(const struct s
     struct shellwaltz_step s = {0, 0, 0, 0, 0, 0};
     s.answer = shellwaltz_release_step(part->blocks, part->sectors, part->logical, part->image, part->image_words, number, step, &s.kind,
                                        &s.place, &s.word, &s.bad_block, &s.bad_rule);
+    return s;
+}
+
+static inline struct shellwaltz_step shellwaltz_part_repair_step(const struct shellwaltz_part *part, uint32_t step)
+{
+    struct shellwaltz_step s = {0, 0, 0, 0, 0, 0};
+    s.answer = shellwaltz_repair_step(part->blocks, part->sectors, part->logical, part->image, part->image_words, step, &s.kind, &s.place,
+                                      &s.word, &s.bad_block, &s.bad_rule);
     return s;
 }
 
@@ -309,6 +348,14 @@ static inline struct shellwaltz_result shellwaltz_part_release_first(const struc
     return r;
 }
 
+static inline struct shellwaltz_result shellwaltz_part_repair_first(const struct shellwaltz_part *part, uint32_t most)
+{
+    struct shellwaltz_result r = {0, 0, 0, 0, 0};
+    r.answer = shellwaltz_repair_first(part->blocks, part->sectors, part->logical, part->image, part->image_words, most, &r.words,
+                                       &r.erasures, &r.bad_block, &r.bad_rule);
+    return r;
+}
+
 /* ---- For logs: a sentence for each number. */
 
 static inline const char *shellwaltz_meaning(uint32_t answer)
@@ -320,7 +367,8 @@ static inline const char *shellwaltz_meaning(uint32_t answer)
     case SHELLWALTZ_BAD_NUMBER: return "There is no logical sector of this number.";
     case SHELLWALTZ_MALFORMED: return "The image breaks a rule of the format.";
     case SHELLWALTZ_UNMAPPED: return "Nothing is stored under this number.";
-    case SHELLWALTZ_WORN_OUT: return "The write would erase a block that has been erased 1000000 times.";
+    case SHELLWALTZ_WORN_OUT: return "The write or the repair would erase a block that has been erased 1000000 times.";
+    case SHELLWALTZ_NO_ROOM: return "The repair is to empty a block, and no block is full or what is stored there finds no room.";
     default: return "This is not an answer of the library.";
     }
 }

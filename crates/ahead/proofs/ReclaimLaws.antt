@@ -1,28 +1,26 @@
 -- What the code of a reclaim stands on: the r-th live slot is there, with its number and r before it; the placings of a reclaim fit the image; and
 -- step i, found by division, is the one of the definition. Assumes nothing.
 use mathlib.Core.Path.{_≡_, refl, sym, ap, _∙_}
-use mathlib.Core.Bool.{Bool, true, false, cond, _&&_, true≢false}
+use mathlib.Core.Bool.{Bool, true, false, cond, _&&_}
 use mathlib.Core.List.{List}
-use Prim.Native.Nat.{ℕ, zero, suc, _+_, _*_, _/_, _%_, _^_, _<_}
-use native.Mathlib.Decide.{decLt}
+use Prim.Native.Nat.{ℕ, _+_, _*_, _/_, _%_, _^_, _<_}
 use native.Mathlib.Omega.{arith}
 use lib.Dec.{eqb}
 use borrow.Author.Tests.{eq-eqb, eqb-true}
-use Rattle.ranges.specs.Range.{sumBelow, countBelow}
 use Rattle.ranges.proofs.Tests.{both-pass}
-use Rattle.ranges.proofs.Sums.{count-le, one-if-le, one-if-positive}
+use Rattle.ranges.proofs.Sums.{count-le, count-nth}
 use Rattle.ranges.proofs.Searches.{best-some, best-passes}
 use Rattle.geometry.specs.declared.Geometry.{Geometry}
 use Rattle.geometry.specs.Geometry.{d}
 use Rattle.image.specs.declared.Found.{Found}
 use Rattle.image.specs.declared.Found.the-variants.{At, Nothing}
-use Rattle.image.specs.declared.Slot.{Slot}
-use Rattle.image.specs.declared.Slot.the-variants.{Free, Live, Dead, Faulty, Superseded}
+use Rattle.image.specs.declared.Slot.the-variants.{Live}
 use Rattle.image.specs.Words.{Image, mapBit, entry, contents}
 use Rattle.image.specs.Slots.{ownSlot, slot, isLive, find}
 use Rattle.image.specs.Blocks.{liveSlots, leastWornBlank}
 use Rattle.image.proofs.Entries.{live-parts}
 use Rattle.image.proofs.Own.{live-own, live-number}
+use Rattle.image.proofs.Facts.{live-is}
 use Rattle.flash.specs.declared.Placement.{Placement}
 use Rattle.flash.specs.Steps.{stepAt}
 use Rattle.flash.specs.Placing.{InImage}
@@ -33,35 +31,7 @@ use Rattle.flash.proofs.Written.{Reclaims, blank-in, spare}
 use Rattle.flash.proofs.Copies.{copy-step}
 use Rattle.ahead.specs.Ahead.{nthLive}
 
--- ---- the r-th of the indices that pass
-
--- it passes, and r before it do
-pub record NthBelow (m : ℕ) (f : ℕ → Bool) (r : ℕ) : Type 0 where
-  pub i : ℕ
-  pub below : i < m
-  pub passes : f i ≡ true
-  pub before : countBelow i f ≡ r
-
--- it is there where more than r pass
-pub count-nth : (m : ℕ) (f : ℕ → Bool) (r : ℕ) → r < countBelow m f → NthBelow m f r
-unfolding sumBelow
-count-nth zero f r l = absurd (omega arith)
-count-nth (suc m) f r l = go (decLt r (countBelow m f)) (count-nth m f r)
-  where
-    go : Dec (r < countBelow m f) → (r < countBelow m f → NthBelow m f r) → NthBelow (suc m) f r
-    go (yes h) earlier =
-        let e = earlier h in
-        record { i = e .i; below = omega (arith, e .below); passes = e .passes; before = e .before }
-    go (no h) earlier =
-        record { i = m; below = omega arith; passes = one-if-positive (f m) (omega arith); before = omega (arith, one-if-le (f m)) }
-
--- a live slot is live for some number
-live-is : (s : Slot) → isLive s ≡ true → (n : ℕ) × (s ≡ Live n)
-live-is Free e = absurd (true≢false (sym e))
-live-is (Live n) e = (n, refl)
-live-is Dead e = absurd (true≢false (sym e))
-live-is Faulty e = absurd (true≢false (sym e))
-live-is Superseded e = absurd (true≢false (sym e))
+-- ---- the r-th live slot
 
 -- the r-th live slot of v: its number is in its entry
 pub record Nth (geo : Geometry) (image : Image) (v r m : ℕ) : Type 0 where

@@ -5,7 +5,7 @@ use mathlib.Core.Logic.{_≢_, _↔_}
 use native.Mathlib.Decide.{ℕ-discrete}
 use native.Mathlib.Omega.{arith}
 use Rattle.answers.specs.declared.Answer.{Answer}
-use Rattle.answers.specs.declared.Answer.the-variants.{Accepted, BadGeometry, BadBuffer, BadNumber, Malformed, Unmapped, WornOut}
+use Rattle.answers.specs.declared.Answer.the-variants.{Accepted, BadGeometry, BadBuffer, BadNumber, Malformed, Unmapped, WornOut, NoRoom}
 use Rattle.answers.specs.Answers.{numberOf, blockOf, ruleOf, ifAccepted}
 
 pub accepted-number : (a : Answer) → (a ≡ Accepted) ↔ (numberOf a ≡ 0)
@@ -19,6 +19,7 @@ accepted-number a = (λ e. ap numberOf e, go a)
     go (Malformed block rule) e = absurd (omega arith)
     go Unmapped e = absurd (omega arith)
     go WornOut e = absurd (omega arith)
+    go NoRoom e = absurd (omega arith)
 
 pub accepted? : (a : Answer) → Dec (a ≡ Accepted)
 accepted? a = go (ℕ-discrete (numberOf a) 0)
@@ -38,6 +39,7 @@ if-refused BadNumber x y n = refl
 if-refused (Malformed block rule) x y n = refl
 if-refused Unmapped x y n = refl
 if-refused WornOut x y n = refl
+if-refused NoRoom x y n = refl
 
 pub others-name-none : (a : Answer) → numberOf a ≢ 4 → (blockOf a ≡ 0) × (ruleOf a ≡ 0)
 others-name-none Accepted n = (refl, refl)
@@ -47,3 +49,4 @@ others-name-none BadNumber n = (refl, refl)
 others-name-none (Malformed block rule) n = absurd (n refl)
 others-name-none Unmapped n = (refl, refl)
 others-name-none WornOut n = (refl, refl)
+others-name-none NoRoom n = (refl, refl)

@@ -11,6 +11,7 @@ pub enum Answer {
     Malformed(u32, u32),
     Unmapped,
     WornOut,
+    NoRoom,
 }
 
 // An answer's number in the table of refusals.
@@ -25,6 +26,7 @@ pub fn number(answer: Answer) -> u32
         Answer::Malformed(_, _) => 4,
         Answer::Unmapped => 5,
         Answer::WornOut => 6,
+        Answer::NoRoom => 10,
     }
 }
 
@@ -40,6 +42,7 @@ pub fn bad_block(answer: Answer) -> u32
         Answer::Malformed(block, _) => block,
         Answer::Unmapped => 0,
         Answer::WornOut => 0,
+        Answer::NoRoom => 0,
     }
 }
 
@@ -55,5 +58,6 @@ pub fn bad_rule(answer: Answer) -> u32
         Answer::Malformed(_, rule) => rule,
         Answer::Unmapped => 0,
         Answer::WornOut => 0,
+        Answer::NoRoom => 0,
     }
 }

@@ -1,4 +1,5 @@
 pub mod Bit
+pub mod Upper
 pub mod Clearing
 pub mod Programming
 pub mod Counting

@@ -4,8 +4,9 @@ ghost use mathlib.Core.Path.{_≡_};
 ghost use Prim.Native.Nat.{_<_};
 ghost use Rattle.ranges.specs.Range.{countBelow};
 ghost use Rattle.image.specs.Words.{Shaped, eraseCount};
-ghost use Rattle.image.specs.Blocks.{blank, tally, freeSlots, liveSlots, lowestFree, lowestOpen, leastWornBlank, victim};
+ghost use Rattle.image.specs.Blocks.{blank, full, tally, freeSlots, liveSlots, lowestFree, lowestOpen, leastWornBlank, victim};
 ghost use Rattle.image.specs.WellFormed.{R2, sound, MapsAgree, NoneSuperseded};
+ghost use Rattle.image.specs.Mending.{countUnset};
 use geometry::Geometry;
 use image::Slot;
 use image::Tally;
@@ -110,6 +111,16 @@ pub fn lowest_free(image: &[u32], geo: Geometry, b: usize) -> usize
     d
 }
 
+// Whether no slot of block b is free.
+pub fn is_full(image: &[u32], geo: Geometry, b: usize) -> bool
+    requires { ⌜ Shaped geo (now image) ⌝ }
+    requires { ⌜ b < geo .blocks ⌝ }
+    requires { ⌜ R2 geo (now image) b ≡ true ⌝ }
+    ensures { λ r. ⌜ r ≡ full geo (now (image .entry)) b ⌝ }
+{
+    lowest_free(image, geo, b) == geo.d()
+}
+
 // The first open block; B where none is open.
 pub fn lowest_open(image: &[u32], geo: Geometry) -> usize
     requires { ⌜ Shaped geo (now image) ⌝ }
@@ -148,6 +159,19 @@ fn is_blank(image: &[u32], geo: Geometry, b: usize) -> bool
             return true;
         }
     }
+}
+
+// K4, (iii) of a repair: whether block b is blank, and was not given its count.
+pub fn count_unset(image: &[u32], geo: Geometry, b: usize) -> bool
+    requires { ⌜ Shaped geo (now image) ⌝ }
+    requires { ⌜ b < geo .blocks ⌝ }
+    requires { ⌜ R2 geo (now image) b ≡ true ⌝ }
+    ensures { λ r. ⌜ r ≡ countUnset geo (now (image .entry)) b ⌝ }
+{
+    if erase_count(image, geo, b) != 0xFFFF_FFFF {
+        return false;
+    }
+    is_blank(image, geo, b)
 }
 
 // How many blocks are blank.

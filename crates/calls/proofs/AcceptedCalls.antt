@@ -14,10 +14,12 @@ use Rattle.image.specs.Words.{Image, Shaped, Words32, eraseCount}
 use Rattle.image.specs.Slots.{liveIn, find, isMapped}
 use Rattle.image.specs.Blocks.{victim}
 use Rattle.image.specs.WellFormed.{ceiling, R6, wellFormed}
+use Rattle.image.specs.Mending.{mendable}
 use Rattle.tables.specs.Tables.{Table, placeWord, rightTable}
 use Rattle.flash.specs.Steps.{run}
 use Rattle.flash.specs.Placing.{releasing}
 use Rattle.flash.specs.Writing.{mustReclaim, writing}
+use Rattle.flash.specs.Repairing.{repairing, lacksRoom, victimWorn}
 use Rattle.flash.specs.Tables.{tableWritten, tableReleased}
 use Rattle.flash.proofs.Filling.{Ready}
 use Rattle.flash.proofs.Written.{Wrote, Sector, writing-wrote, writing-right}
@@ -25,9 +27,22 @@ use Rattle.flash.proofs.Released.{Released, releasing-released, releasing-right
 use Rattle.flash.proofs.Tables.{writing-others, writing-sets}
 use Rattle.answers.specs.declared.Answer.the-variants.{Accepted}
 use Rattle.answers.proofs.Acceptance.{if-accepted}
-use Rattle.calls.specs.Refusals.{formatRows, checkRows, readRows, writeRows, releaseRows, formatAnswer, checkAnswer, readAnswer, writeAnswer, releaseAnswer}
-use Rattle.calls.specs.Calls.{writeSteps, releaseSteps}
-use Rattle.calls.proofs.CallLaws.{shaped-left, formed-ready}
+use Rattle.calls.specs.Refusals.{
+  formatRows,
+  checkRows,
+  readRows,
+  writeRows,
+  releaseRows,
+  repairRows,
+  formatAnswer,
+  checkAnswer,
+  readAnswer,
+  writeAnswer,
+  releaseAnswer,
+  repairAnswer,
+}
+use Rattle.calls.specs.Calls.{writeSteps, releaseSteps, repairSteps}
+use Rattle.calls.proofs.CallLaws.{shaped-left, shaped-passes, formed-ready}
 use Rattle.calls.proofs.Rows.{NoneApplies, none-applies}
 
 module _ (geo : Geometry) (image : Image) where
@@ -166,3 +181,26 @@ module _ (geo : Geometry) (image : Image) where
     release-right =
         let found = found-by n (release-rows .1 .1 .1 .0) in
         releasing-right geo image n (found .0) (found .1) (release-start .0) (found .2)
+
+  -- ---- an accepted repair (K4), and when it is
+
+  pub repair-accepted :
+      repairAnswer geo image ≡ Accepted →
+      Shaped geo image × (mendable geo image ≡ true) × (lacksRoom geo image ≡ false) × (victimWorn geo image ≡ false)
+  unfolding repairAnswer
+  repair-accepted e =
+      let rows : NoneApplies (repairRows geo image) = none-applies (repairRows geo image) e refl in
+      (shaped-left geo image (rows .0), not-false (mendable geo image) (rows .1 .0), rows .1 .1 .0, rows .1 .1 .1 .0)
+
+  pub repair-accepts :
+      Shaped geo image →
+      mendable geo image ≡ true →
+      lacksRoom geo image ≡ false →
+      victimWorn geo image ≡ false →
+      repairAnswer geo image ≡ Accepted
+  unfolding repairAnswer
+  repair-accepts shaped mends room worn = rw (shaped-passes geo image shaped, mends, room, worn)
+
+  pub repair-steps : repairAnswer geo image ≡ Accepted → repairSteps geo image ≡ repairing geo image
+  unfolding repairSteps
+  repair-steps accepted = if-accepted (repairing geo image) [] accepted

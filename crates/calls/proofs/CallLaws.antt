@@ -10,7 +10,7 @@ use borrow.Author.Tests.{eq-eqb, eqb-true, lt-leb, not-true, not-false}
 use Rattle.ranges.proofs.Tests.{both-pass, unless}
 use Rattle.geometry.specs.declared.Geometry.{Geometry}
 use Rattle.geometry.specs.Geometry.{imageLength, sectorWords, withinLimits}
-use Rattle.geometry.proofs.Laws.{limits-hold}
+use Rattle.geometry.proofs.Laws.{limits-hold, limits-pass}
 use Rattle.image.specs.declared.Fault.{Fault}
 use Rattle.image.specs.Words.{Image, Shaped, Words32}
 use Rattle.image.specs.WellFormed.{R6, wellFormed}
@@ -43,6 +43,10 @@ pub shaped-left : (geo : Geometry) (image : Image) → row1 geo image .applies �
 shaped-left geo image passed =
     let both = both-pass (withinLimits geo) (eqb (length image) (imageLength geo)) (not-false _ passed) in
     record { limits = limits-hold geo (both .0); long = eqb-true _ _ (both .1) }
+
+-- and it does not apply to such an image
+pub shaped-passes : (geo : Geometry) (image : Image) → Shaped geo image → row1 geo image .applies ≡ false
+shaped-passes geo image shaped = rw (limits-pass geo (shaped .limits), eq-eqb _ _ (shaped .long))
 
 -- past rows 1 and 4 the image is one that steps can be carried out on, with a blank block
 pub formed-ready : (geo : Geometry) (image : Image) → Shaped geo image → Words32 image → wellFormed geo image ≡ true → Ready geo image × (R6 geo image ≡ true)

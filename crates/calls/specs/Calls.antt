@@ -17,13 +17,14 @@ use Rattle.flash.specs.declared.Step.{Step}
 use Rattle.flash.specs.Steps.{run, wordsIn, erasuresIn, firstOf}
 use Rattle.flash.specs.Placing.{releasing}
 use Rattle.flash.specs.Writing.{writing}
+use Rattle.flash.specs.Repairing.{repairing}
 use Rattle.flash.specs.Tables.{tableWritten, tableReleased}
 use Rattle.answers.specs.declared.Answer.{Answer}
 use Rattle.answers.specs.declared.Answer.the-variants.{Accepted}
 use Rattle.answers.specs.Answers.{ifAccepted}
 use Rattle.calls.specs.declared.Outcome.{Outcome}
 use Rattle.calls.specs.declared.Totals.{Totals}
-use Rattle.calls.specs.Refusals.{formatAnswer, checkAnswer, readAnswer, writeAnswer, releaseAnswer}
+use Rattle.calls.specs.Refusals.{formatAnswer, checkAnswer, readAnswer, writeAnswer, releaseAnswer, repairAnswer}
 
 module _ (geo : Geometry) where
   -- a format: all words are ones, but for word 0 of every block, which is 0. Here word 0 of the first m blocks is set
@@ -72,7 +73,7 @@ module _ (geo : Geometry) (image : Image) where
   unfoldable pub readBuffer : ℕ → List ℕ → List ℕ
   readBuffer n buffer = bufferAfter (readAnswer geo image n buffer) n buffer
 
-  -- the steps of a write and of a release: none where it is refused
+  -- the steps of a write, of a release and of a repair (K4): none where it is refused
   abbrev pub writeStepsAfter : Answer → ℕ → List ℕ → List Step
   writeStepsAfter answer n buffer = ifAccepted answer (writing geo image n buffer) []
 
@@ -84,6 +85,9 @@ module _ (geo : Geometry) (image : Image) where
 
   unfoldable pub releaseSteps : ℕ → List Step
   releaseSteps n = releaseStepsAfter (releaseAnswer geo image n) n
+
+  unfoldable pub repairSteps : List Step
+  repairSteps = ifAccepted (repairAnswer geo image) (repairing geo image) []
 
 -- what a call made of steps reports: how many of them program a word, and how many erase a block
 abbrev pub outcome : Answer → List Step → Outcome
@@ -108,6 +112,13 @@ module _ (geo : Geometry) (image : Image) where
   abbrev pub released : ℕ → Image
   released n = run geo image (releaseSteps geo image n)
 
+  -- a repair (K4): what it reports, and the image that it leaves
+  abbrev pub repairOutcome : Outcome
+  repairOutcome = outcome (repairAnswer geo image) (repairSteps geo image)
+
+  abbrev pub repaired : Image
+  repaired = run geo image (repairSteps geo image)
+
   -- K4: the first j steps of each: what is reported of those, and the image that they leave
   abbrev pub writeFirstOutcome : ℕ → List ℕ → ℕ → Outcome
   writeFirstOutcome n buffer j = outcome (writeAnswer geo image n buffer) (firstOf j (writeSteps geo image n buffer))
@@ -120,6 +131,12 @@ module _ (geo : Geometry) (image : Image) where
 
   abbrev pub releasedFirst : ℕ → ℕ → Image
   releasedFirst n j = run geo image (firstOf j (releaseSteps geo image n))
+
+  abbrev pub repairFirstOutcome : ℕ → Outcome
+  repairFirstOutcome j = outcome (repairAnswer geo image) (firstOf j (repairSteps geo image))
+
+  abbrev pub repairedFirst : ℕ → Image
+  repairedFirst j = run geo image (firstOf j (repairSteps geo image))
 
   -- K2: the table that a write and a release leave, whatever its length: where they are refused it is as it was
   abbrev pub tableAfterWriting : Answer → ℕ → Table → Table

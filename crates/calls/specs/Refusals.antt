@@ -11,9 +11,11 @@ use Rattle.image.specs.Slots.{isMapped}
 use Rattle.image.specs.Blocks.{victim}
 use Rattle.image.specs.WellFormed.{wellFormed, ceiling}
 use Rattle.image.specs.Faults.{firstFault}
+use Rattle.image.specs.Mending.{mendable}
 use Rattle.flash.specs.Writing.{mustReclaim}
+use Rattle.flash.specs.Repairing.{lacksRoom, victimWorn}
 use Rattle.answers.specs.declared.Answer.{Answer}
-use Rattle.answers.specs.declared.Answer.the-variants.{Accepted, BadGeometry, BadBuffer, BadNumber, Malformed, Unmapped, WornOut}
+use Rattle.answers.specs.declared.Answer.the-variants.{Accepted, BadGeometry, BadBuffer, BadNumber, Malformed, Unmapped, WornOut, NoRoom}
 
 -- a row of the table: its number, the answer that a call gives by it, and whether it applies
 pub record Row : Type 0 where
@@ -43,14 +45,16 @@ module _ (geo : Geometry) (image : Image) where
   abbrev pub row3 : ℕ → Row
   row3 n = record { number = 3; refusal = BadNumber; applies = leb (geo .logical) n }
 
-  -- refusal 4: a rule of well-formed images is broken. Every call but a format tests it, and names the first failing pair (K1).
+  -- refusal 4: a rule of well-formed images is broken. Every call but a format and a repair tests it, and names the first failing pair (K1).
+  abbrev pub malformed : Answer
+  malformed = Malformed (firstFault geo image .block) (firstFault geo image .rule)
+
   abbrev pub row4 : Row
-  row4 =
-      record {
-        number = 4;
-        refusal = Malformed (firstFault geo image .block) (firstFault geo image .rule);
-        applies = not (wellFormed geo image);
-      }
+  row4 = record { number = 4; refusal = malformed; applies = not (wellFormed geo image) }
+
+  -- of a repair (K4): there is a fault that it cannot mend. The pair is the first that fails, be it that fault or one that could be mended
+  abbrev pub row4Repair : Row
+  row4Repair = record { number = 4; refusal = malformed; applies = not (mendable geo image) }
 
   -- refusal 5: what a read or a release asks for is not mapped
   abbrev pub row5 : ℕ → Row
@@ -65,7 +69,15 @@ module _ (geo : Geometry) (image : Image) where
         applies = mustReclaim geo image && eqb (eraseCount geo image (victim geo image)) ceiling;
       }
 
-  -- each call's rows, in the table's order, and its answer; a report refuses as a check does
+  -- refusal 10, of a repair (K4), before 6: it has to empty a block, and has no room for what is live there, or no block is full
+  abbrev pub row10 : Row
+  row10 = record { number = 10; refusal = NoRoom; applies = lacksRoom geo image }
+
+  -- refusal 6, of a repair (K4): that block cannot be erased once more
+  abbrev pub row6Repair : Row
+  row6Repair = record { number = 6; refusal = WornOut; applies = victimWorn geo image }
+
+  -- each call's rows, in the table's order but for a repair's 10, which comes before 6, and its answer; a report refuses as a check does
   abbrev pub formatRows : List Row
   formatRows = row1 ∷ []
 
@@ -81,6 +93,9 @@ module _ (geo : Geometry) (image : Image) where
   abbrev pub releaseRows : ℕ → List Row
   releaseRows n = row1 ∷ row3 n ∷ row4 ∷ row5 n ∷ []
 
+  abbrev pub repairRows : List Row
+  repairRows = row1 ∷ row4Repair ∷ row10 ∷ row6Repair ∷ []
+
   unfoldable pub formatAnswer : Answer
   formatAnswer = firstThatApplies formatRows
 
@@ -95,3 +110,6 @@ module _ (geo : Geometry) (image : Image) where
 
   unfoldable pub releaseAnswer : ℕ → Answer
   releaseAnswer n = firstThatApplies (releaseRows n)
+
+  unfoldable pub repairAnswer : Answer
+  repairAnswer = firstThatApplies repairRows

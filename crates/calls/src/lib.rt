@@ -1,19 +1,21 @@
 // The calls that look a number up, with a lookup table (K2) of any length: a number whose word is not there is searched for, and not noted.
-// The calls without a table (shellwaltz) hand on one of no words; those with one (tabled) ask for its length first. Each tests its rows of the
-// table of refusals (docs/FORMAT.md, Refusals), in the table's order, with 2 for the buffer alone, and then does its work.
+// The calls without a table (shellwaltz) hand on one of no words; those with one (tabled) ask for its length first. And a repair (K4), which looks
+// none up. Each tests its rows of the table of refusals (docs/FORMAT.md, Refusals), in the order there, with 2 for the buffer alone, and then does
+// its work.
 ghost use mathlib.Core.List.{[]};
 ghost use mathlib.Core.Path.{_≡_};
 ghost use Prim.Native.Nat.{_<_};
 ghost use lib.ListN.{length};
 ghost use Rattle.calls.specs.Refusals.{readAnswer, writeAnswer, releaseAnswer};
-ghost use Rattle.calls.specs.Courses.{writeCourse, releaseCourse};
-ghost use Rattle.calls.specs.Calls.{readBuffer, outcome, accepting, writeSteps, writeOutcome, written, writeFirstOutcome, writtenFirst, tableAfterWriting, releaseOutcome, released, releaseFirstOutcome, releasedFirst, tableAfterReleasing};
+ghost use Rattle.calls.specs.Courses.{writeCourse, releaseCourse, repairCourse};
+ghost use Rattle.calls.specs.Calls.{readBuffer, outcome, accepting, writeSteps, writeOutcome, written, writeFirstOutcome, writtenFirst, tableAfterWriting, releaseOutcome, released, releaseFirstOutcome, releasedFirst, tableAfterReleasing, repairOutcome, repaired, repairFirstOutcome, repairedFirst};
 use answers::Answer;
 use flash::Plan;
 use geometry::Geometry;
 use image::Found;
+use repairing::RepairPlan;
 
-// What format, write and release report: the words programmed and the blocks erased.
+// What format, write, release and repair report: the words programmed and the blocks erased.
 pub struct Outcome {
     pub answer: Answer,
     pub words: u32,
@@ -40,6 +42,12 @@ pub enum WriteCourse {
 pub enum ReleaseCourse {
     Refused(Answer),
     Invalidate(Found),
+}
+
+// The course of a repair: refused with this answer; or by this plan, (i) to (iii) or all four.
+pub enum RepairCourse {
+    Refused(Answer),
+    Along(RepairPlan),
 }
 
 // A read, with n looked up by a table of any length.
@@ -69,7 +77,7 @@ pub fn read_by(image: &[u32], geo: Geometry, n: u32, buffer: &mut [u32], table: 
     }
 }
 
-// What a refused write or release reports.
+// What a refused write, release or repair reports.
 pub fn refused(answer: Answer) -> Outcome
     ensures { λ r. ⌜ r ≡ outcome answer [] ⌝ }
 {
@@ -132,6 +140,25 @@ pub fn release_course(image: &[u32], geo: Geometry, n: u32, table: &[u16]) -> Re
     match tables::look_up(image, geo, n, table) {
         Found::At(b, i) => ReleaseCourse::Invalidate(Found::At(b, i)),
         Found::Nothing => ReleaseCourse::Refused(Answer::Unmapped),
+    }
+}
+
+// The course of a repair: its rows, 1, 4, 10 and 6 in this order. The pair of 4 is looked for only where there is a fault that cannot be mended.
+pub fn repair_course(image: &[u32], geo: Geometry) -> RepairCourse
+    ensures { λ r. ⌜ r ≡ repairCourse geo (now (image .entry)) ⌝ }
+{
+    if !image::slots::fits(image, geo) {
+        return RepairCourse::Refused(Answer::BadGeometry);
+    }
+    if !mending::is_mendable(image, geo) {
+        let fault = checking::first_fault(image, geo);
+        return RepairCourse::Refused(Answer::Malformed(fault.block, fault.rule));
+    }
+    match repairing::plan(image, geo) {
+        RepairPlan::Cramped => RepairCourse::Refused(Answer::NoRoom),
+        RepairPlan::Worn => RepairCourse::Refused(Answer::WornOut),
+        RepairPlan::Mend => RepairCourse::Along(RepairPlan::Mend),
+        RepairPlan::Empty(v) => RepairCourse::Along(RepairPlan::Empty(v)),
     }
 }
 
@@ -226,4 +253,36 @@ pub fn release_by(image: &mut [u32], geo: Geometry, n: u32, table: &mut [u16]) -
     ensures { λ r. ⌜ now (table .exit) ≡ tableAfterReleasing geo (now (image .entry)) (releaseAnswer geo (now (image .entry)) n) n (now (table .entry)) ⌝ }
 {
     release_within(image, geo, n, table, 0xFFFF_FFFF)
+}
+
+// The first steps of a repair of this course, at most so many. (Decided before, as with a write.)
+fn repair_along(image: &mut [u32], geo: Geometry, course: RepairCourse, most: u32) -> Outcome
+    requires { ⌜ course ≡ repairCourse geo (now image) ⌝ }
+    ensures { λ r. ⌜ r ≡ repairFirstOutcome geo (now (image .entry)) most ⌝ }
+    ensures { λ _. ⌜ now (image .exit) ≡ repairedFirst geo (now (image .entry)) most ⌝ }
+{
+    match course {
+        RepairCourse::Refused(answer) => refused(answer),
+        RepairCourse::Along(plan) => {
+            let done = repairing::repair_along(image, geo, plan, most);
+            accepted(most - done.left - done.erasures, done.erasures)
+        }
+    }
+}
+
+// The first steps of a repair.
+pub fn repair_within(image: &mut [u32], geo: Geometry, most: u32) -> Outcome
+    ensures { λ r. ⌜ r ≡ repairFirstOutcome geo (now (image .entry)) most ⌝ }
+    ensures { λ _. ⌜ now (image .exit) ≡ repairedFirst geo (now (image .entry)) most ⌝ }
+{
+    let course = repair_course(image, geo);
+    repair_along(image, geo, course, most)
+}
+
+// A repair: none has 4,294,967,295 steps.
+pub fn repair_by(image: &mut [u32], geo: Geometry) -> Outcome
+    ensures { λ r. ⌜ r ≡ repairOutcome geo (now (image .entry)) ⌝ }
+    ensures { λ _. ⌜ now (image .exit) ≡ repaired geo (now (image .entry)) ⌝ }
+{
+    repair_within(image, geo, 0xFFFF_FFFF)
 }

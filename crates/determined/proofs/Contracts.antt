@@ -2,7 +2,7 @@
 -- outcome, `_`, is read off the clauses, which are its equations by computation. Assumes nothing.
 use mathlib.Core.Path.{refl}
 use mathlib.Core.List.{[], _∷_}
-use Rattle.determined.specs.Contracts.{EveryContract, number, bad-block, bad-rule, format, check, report, read, write, release, write-step, release-step, write-first, release-first, build-table, read-with-table, write-with-table, release-with-table, c-format, c-check, c-report, c-read, c-write, c-release, c-write-step, c-release-step, c-write-first, c-release-first, c-build-table, c-read-with-table, c-write-with-table, c-release-with-table, start, record-of, short, carry-out, end, reply, last}
+use Rattle.determined.specs.Contracts.{EveryContract, number, bad-block, bad-rule, format, check, report, read, write, release, repair, write-step, release-step, repair-step, write-first, release-first, repair-first, build-table, read-with-table, write-with-table, release-with-table, c-format, c-check, c-report, c-read, c-write, c-release, c-repair, c-write-step, c-release-step, c-repair-step, c-write-first, c-release-first, c-repair-first, c-build-table, c-read-with-table, c-write-with-table, c-release-with-table, start, record-of, short, carry-out, end, reply, last}
 use Rattle.determined.proofs.Law.{kept, count, words, left, determined, nothing}
 use Rattle.answers.proofs as answers
 use Rattle.shellwaltz.proofs as calls
@@ -24,10 +24,13 @@ every-contract =
       of-read = determined read (left (kept ∷ kept ∷ kept ∷ words ∷ [])) _ nothing (λ w c g o. refl) (λ M. calls.read.Met.met);
       of-write = determined write (left (words ∷ kept ∷ kept ∷ kept ∷ [])) _ nothing (λ w c g o. refl) (λ M. calls.write.Met.met);
       of-release = determined release (left (words ∷ kept ∷ kept ∷ [])) _ nothing (λ w c g o. refl) (λ M. calls.release.Met.met);
+      of-repair = determined repair (left (words ∷ kept ∷ [])) _ nothing (λ w c g o. refl) (λ M. calls.repair.Met.met);
       of-write-step = determined write-step (left (kept ∷ kept ∷ kept ∷ kept ∷ kept ∷ [])) _ nothing (λ w c g o. refl) (λ M. stepwise.write_step.Met.met);
       of-release-step = determined release-step (left (kept ∷ kept ∷ kept ∷ kept ∷ [])) _ nothing (λ w c g o. refl) (λ M. stepwise.release_step.Met.met);
+      of-repair-step = determined repair-step (left (kept ∷ kept ∷ kept ∷ [])) _ nothing (λ w c g o. refl) (λ M. stepwise.repair_step.Met.met);
       of-write-first = determined write-first (left (words ∷ kept ∷ kept ∷ kept ∷ kept ∷ [])) _ nothing (λ w c g o. refl) (λ M. stepwise.write_first.Met.met);
       of-release-first = determined release-first (left (words ∷ kept ∷ kept ∷ kept ∷ [])) _ nothing (λ w c g o. refl) (λ M. stepwise.release_first.Met.met);
+      of-repair-first = determined repair-first (left (words ∷ kept ∷ kept ∷ [])) _ nothing (λ w c g o. refl) (λ M. stepwise.repair_first.Met.met);
       of-build-table = determined build-table (left (kept ∷ kept ∷ words ∷ [])) _ nothing (λ w c g o. refl) (λ M. tabled.build.Met.met);
       of-read-with-table = determined read-with-table (left (kept ∷ kept ∷ kept ∷ words ∷ kept ∷ [])) _ nothing (λ w c g o. refl) (λ M. tabled.read.Met.met);
       of-write-with-table = determined write-with-table (left (words ∷ kept ∷ kept ∷ kept ∷ words ∷ [])) _ nothing (λ w c g o. refl) (λ M. tabled.write.Met.met);
@@ -50,10 +53,15 @@ every-contract =
       of-c-release =
           determined c-release (left (kept ∷ kept ∷ kept ∷ words ∷ kept ∷ count ∷ count ∷ count ∷ count ∷ [])) _ nothing (λ w c g o. refl)
           (λ M. in-c.shellwaltz_release.Met.met);
+      of-c-repair =
+          determined c-repair (left (kept ∷ kept ∷ kept ∷ words ∷ count ∷ count ∷ count ∷ count ∷ [])) _ nothing (λ w c g o. refl)
+          (λ M. in-c.shellwaltz_repair.Met.met);
       of-c-write-step = determined c-write-step (left (kept ∷ kept ∷ kept ∷ kept ∷ kept ∷ kept ∷ kept ∷ count ∷ count ∷ count ∷ count ∷ count ∷ [])) _ nothing (λ w c g o. refl) (λ M. in-c.by_steps.shellwaltz_write_step.Met.met);
       of-c-release-step = determined c-release-step (left (kept ∷ kept ∷ kept ∷ kept ∷ kept ∷ kept ∷ count ∷ count ∷ count ∷ count ∷ count ∷ [])) _ nothing (λ w c g o. refl) (λ M. in-c.by_steps.shellwaltz_release_step.Met.met);
+      of-c-repair-step = determined c-repair-step (left (kept ∷ kept ∷ kept ∷ kept ∷ kept ∷ count ∷ count ∷ count ∷ count ∷ count ∷ [])) _ nothing (λ w c g o. refl) (λ M. in-c.by_steps.shellwaltz_repair_step.Met.met);
       of-c-write-first = determined c-write-first (left (kept ∷ kept ∷ kept ∷ words ∷ kept ∷ kept ∷ kept ∷ count ∷ count ∷ count ∷ count ∷ [])) _ nothing (λ w c g o. refl) (λ M. in-c.by_steps.shellwaltz_write_first.Met.met);
       of-c-release-first = determined c-release-first (left (kept ∷ kept ∷ kept ∷ words ∷ kept ∷ kept ∷ count ∷ count ∷ count ∷ count ∷ [])) _ nothing (λ w c g o. refl) (λ M. in-c.by_steps.shellwaltz_release_first.Met.met);
+      of-c-repair-first = determined c-repair-first (left (kept ∷ kept ∷ kept ∷ words ∷ kept ∷ count ∷ count ∷ count ∷ count ∷ [])) _ nothing (λ w c g o. refl) (λ M. in-c.by_steps.shellwaltz_repair_first.Met.met);
       of-c-build-table = determined c-build-table (left (kept ∷ kept ∷ kept ∷ kept ∷ words ∷ count ∷ count ∷ [])) _ nothing (λ w c g o. refl) (λ M. in-c.with_table.shellwaltz_build_table.Met.met);
       of-c-read-with-table = determined c-read-with-table (left (kept ∷ kept ∷ kept ∷ kept ∷ kept ∷ words ∷ kept ∷ count ∷ count ∷ [])) _ nothing (λ w c g o. refl) (λ M. in-c.with_table.shellwaltz_read_with_table.Met.met);
       of-c-write-with-table = determined c-write-with-table (left (kept ∷ kept ∷ kept ∷ words ∷ kept ∷ kept ∷ words ∷ count ∷ count ∷ count ∷ count ∷ [])) _ nothing (λ w c g o. refl) (λ M. in-c.with_table.shellwaltz_write_with_table.Met.met);

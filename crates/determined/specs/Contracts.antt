@@ -41,6 +41,9 @@ write = record { ended = calls.write.ended; clauses = λ M. calls.write.clauses;
 abbrev pub release : Function
 release = record { ended = calls.release.ended; clauses = λ M. calls.release.clauses; routine = calls.release.Symbol.routine }
 
+abbrev pub repair : Function
+repair = record { ended = calls.repair.ended; clauses = λ M. calls.repair.clauses; routine = calls.repair.Symbol.routine }
+
 -- ---- step by step (K4)
 abbrev pub write-step : Function
 write-step = record { ended = stepwise.write_step.ended; clauses = λ M. stepwise.write_step.clauses; routine = stepwise.write_step.Symbol.routine }
@@ -48,11 +51,17 @@ write-step = record { ended = stepwise.write_step.ended; clauses = λ M. stepwis
 abbrev pub release-step : Function
 release-step = record { ended = stepwise.release_step.ended; clauses = λ M. stepwise.release_step.clauses; routine = stepwise.release_step.Symbol.routine }
 
+abbrev pub repair-step : Function
+repair-step = record { ended = stepwise.repair_step.ended; clauses = λ M. stepwise.repair_step.clauses; routine = stepwise.repair_step.Symbol.routine }
+
 abbrev pub write-first : Function
 write-first = record { ended = stepwise.write_first.ended; clauses = λ M. stepwise.write_first.clauses; routine = stepwise.write_first.Symbol.routine }
 
 abbrev pub release-first : Function
 release-first = record { ended = stepwise.release_first.ended; clauses = λ M. stepwise.release_first.clauses; routine = stepwise.release_first.Symbol.routine }
+
+abbrev pub repair-first : Function
+repair-first = record { ended = stepwise.repair_first.ended; clauses = λ M. stepwise.repair_first.clauses; routine = stepwise.repair_first.Symbol.routine }
 
 -- ---- with a lookup table (K2)
 abbrev pub build-table : Function
@@ -92,17 +101,27 @@ abbrev pub c-release : Function
 c-release =
     record { ended = in-c.shellwaltz_release.ended; clauses = λ M. in-c.shellwaltz_release.clauses; routine = in-c.shellwaltz_release.Symbol.routine }
 
+abbrev pub c-repair : Function
+c-repair =
+    record { ended = in-c.shellwaltz_repair.ended; clauses = λ M. in-c.shellwaltz_repair.clauses; routine = in-c.shellwaltz_repair.Symbol.routine }
+
 abbrev pub c-write-step : Function
 c-write-step = record { ended = in-c.by_steps.shellwaltz_write_step.ended; clauses = λ M. in-c.by_steps.shellwaltz_write_step.clauses; routine = in-c.by_steps.shellwaltz_write_step.Symbol.routine }
 
 abbrev pub c-release-step : Function
 c-release-step = record { ended = in-c.by_steps.shellwaltz_release_step.ended; clauses = λ M. in-c.by_steps.shellwaltz_release_step.clauses; routine = in-c.by_steps.shellwaltz_release_step.Symbol.routine }
 
+abbrev pub c-repair-step : Function
+c-repair-step = record { ended = in-c.by_steps.shellwaltz_repair_step.ended; clauses = λ M. in-c.by_steps.shellwaltz_repair_step.clauses; routine = in-c.by_steps.shellwaltz_repair_step.Symbol.routine }
+
 abbrev pub c-write-first : Function
 c-write-first = record { ended = in-c.by_steps.shellwaltz_write_first.ended; clauses = λ M. in-c.by_steps.shellwaltz_write_first.clauses; routine = in-c.by_steps.shellwaltz_write_first.Symbol.routine }
 
 abbrev pub c-release-first : Function
 c-release-first = record { ended = in-c.by_steps.shellwaltz_release_first.ended; clauses = λ M. in-c.by_steps.shellwaltz_release_first.clauses; routine = in-c.by_steps.shellwaltz_release_first.Symbol.routine }
+
+abbrev pub c-repair-first : Function
+c-repair-first = record { ended = in-c.by_steps.shellwaltz_repair_first.ended; clauses = λ M. in-c.by_steps.shellwaltz_repair_first.clauses; routine = in-c.by_steps.shellwaltz_repair_first.Symbol.routine }
 
 abbrev pub c-build-table : Function
 c-build-table = record { ended = in-c.with_table.shellwaltz_build_table.ended; clauses = λ M. in-c.with_table.shellwaltz_build_table.clauses; routine = in-c.with_table.shellwaltz_build_table.Symbol.routine }
@@ -149,10 +168,13 @@ pub record EveryContract : Type 2 where
   pub of-read : Determined read
   pub of-write : Determined write
   pub of-release : Determined release
+  pub of-repair : Determined repair
   pub of-write-step : Determined write-step
   pub of-release-step : Determined release-step
+  pub of-repair-step : Determined repair-step
   pub of-write-first : Determined write-first
   pub of-release-first : Determined release-first
+  pub of-repair-first : Determined repair-first
   pub of-build-table : Determined build-table
   pub of-read-with-table : Determined read-with-table
   pub of-write-with-table : Determined write-with-table
@@ -163,10 +185,13 @@ pub record EveryContract : Type 2 where
   pub of-c-read : Determined c-read
   pub of-c-write : Determined c-write
   pub of-c-release : Determined c-release
+  pub of-c-repair : Determined c-repair
   pub of-c-write-step : Determined c-write-step
   pub of-c-release-step : Determined c-release-step
+  pub of-c-repair-step : Determined c-repair-step
   pub of-c-write-first : Determined c-write-first
   pub of-c-release-first : Determined c-release-first
+  pub of-c-repair-first : Determined c-repair-first
   pub of-c-build-table : Determined c-build-table
   pub of-c-read-with-table : Determined c-read-with-table
   pub of-c-write-with-table : Determined c-write-with-table

@@ -24,7 +24,7 @@ use Rattle.flash.specs.Steps.{run}
 use Rattle.flash.specs.Placing.{takesSlot, outdates, storesContents, beginsEntry, completesEntry, retires, leastLive, greatestLive, closesBlock, fillsSlot, placing}
 use Rattle.flash.specs.Ahead.{closesWith, placementSteps, placementOver}
 use Rattle.flash.proofs.Filling.{Ready, Target}
-use Rattle.flash.proofs.Changed.{which, old-was}
+use Rattle.flash.proofs.Changed.{renewed, which, old-was}
 use Rattle.flash.proofs.Placed.{Placed, filled-placed}
 use Rattle.flash.proofs.Kept.{free-as-before}
 
@@ -68,9 +68,9 @@ module _
             (⊎-elim
             (λ old.
             ap (isLiveFor x) (p .changed .old-dead b j old)
-            ∙ sym (ap (isLiveFor x) (old-was geo image (slot geo filled) n b i (ready .sound) (p .changed) old) ∙ other))
+            ∙ sym (ap (isLiveFor x) (old-was geo image (slot geo filled) n b i (ready .sound) (renewed (p .changed)) old) ∙ other))
             (λ s. ap (isLiveFor x) (s .slots)))
-            (which geo image (slot geo filled) n b i (ready .sound) (p .changed) b j (target .block) l)
+            (which geo image (slot geo filled) n b i (ready .sound) (renewed (p .changed)) b j (target .block) l)
 
         go : Dec (n ≡ x) → liveIn geo filled b x ≡ (liveIn geo image b x || eqb n x)
         go (yes e) =

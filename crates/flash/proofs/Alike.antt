@@ -15,7 +15,7 @@ use Rattle.image.specs.declared.Found.{Found}
 use Rattle.image.specs.declared.Found.the-variants.{At, Nothing}
 use Rattle.image.specs.Words.{Image, Words32, word}
 use Rattle.image.specs.Slots.{find}
-use Rattle.image.specs.Blocks.{victim}
+use Rattle.image.specs.Blocks.{leastWornBlank, victim}
 use Rattle.flash.specs.declared.Step.{Step}
 use Rattle.flash.specs.declared.Step.the-variants.{Program}
 use Rattle.flash.specs.Steps.{applied, run, erasuresIn}
@@ -109,7 +109,7 @@ module _ (geo : Geometry) where
     writing-alike image = go (mustReclaim geo image)
       where
         reclaimed : List Step
-        reclaimed = reclaiming geo image (victim geo image)
+        reclaimed = reclaiming geo image (victim geo image) (leastWornBlank geo image)
 
         go :
             (b : Bool) →

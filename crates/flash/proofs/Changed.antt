@@ -1,15 +1,15 @@
 -- What (a) to (f) of a placing do to the kinds of the slots, be they the slots themselves or what their own entries say: the number is live in the slot
 -- that was taken and in no other, and no number is live twice. Assumes nothing.
-use mathlib.Core.Path.{_≡_, sym, ap, ap₂, _∙_}
+use mathlib.Core.Path.{_≡_, refl, sym, ap, ap₂, _∙_}
 use mathlib.Core.Logic.{_≢_, _⊎_, inl, inr, ⊎-elim, dite}
-use mathlib.Core.Bool.{false, true≢false}
+use mathlib.Core.Bool.{Bool, false, true≢false}
 use Prim.Native.Nat.{ℕ, _<_}
 use native.Mathlib.Decide.{ℕ-discrete}
 use native.Mathlib.Omega.{arith}
 use Rattle.geometry.specs.declared.Geometry.{Geometry}
 use Rattle.geometry.specs.Geometry.{d}
 use Rattle.image.specs.declared.Slot.{Slot}
-use Rattle.image.specs.declared.Slot.the-variants.{Free, Live, Dead}
+use Rattle.image.specs.declared.Slot.the-variants.{Free, Live, Dead, Superseded}
 use Rattle.image.specs.declared.Found.{Found}
 use Rattle.image.specs.declared.Found.the-variants.{At, Nothing}
 use Rattle.image.specs.Words.{Image}
@@ -44,7 +44,7 @@ other-place {b} {c} {i} {j} n e =
     let q : i ≡ j = cc in
     n p q
 
-found-at : (f : Found) (c j : ℕ) → Dec (f ≡ At c j)
+pub found-at : (f : Found) (c j : ℕ) → Dec (f ≡ At c j)
 found-at (At x y) c j = at-slot x y c j (λ p q. yes (ap₂ At p q)) (λ n. no (other-place n))
 found-at Nothing c j = no (λ e. let z : _≡_ {A = ℕ} 0 1 = cc in omega arith)
 
@@ -54,7 +54,24 @@ pub record Changed (geo : Geometry) (image : Image) (kind : ℕ → ℕ → Slot
   pub old-dead : (c j : ℕ) → find geo image n ≡ At c j → kind c j ≡ Dead
   pub other : (c j : ℕ) → c < geo .blocks → j < d geo → (c ≡ b → j ≡ i → ⊥) → (find geo image n ≡ At c j → ⊥) → kind c j ≡ slot geo image c j
 
-module _ (geo : Geometry) (image : Image) (kind : ℕ → ℕ → Slot) (n b i : ℕ) (s : Sound geo image) (p : Changed geo image kind n b i) where
+-- K4: the same from (e) on, before and after (f): the old slot is dead or superseded
+pub record Renewed (geo : Geometry) (image : Image) (kind : ℕ → ℕ → Slot) (n b i : ℕ) : Type 0 where
+  pub here : kind b i ≡ Live n
+  pub old-gone : (c j : ℕ) → find geo image n ≡ At c j → (kind c j ≡ Dead) ⊎ (kind c j ≡ Superseded)
+  pub other : (c j : ℕ) → c < geo .blocks → j < d geo → (c ≡ b → j ≡ i → ⊥) → (find geo image n ≡ At c j → ⊥) → kind c j ≡ slot geo image c j
+
+pub renewed : {geo : Geometry} {image : Image} {kind : ℕ → ℕ → Slot} {n b i : ℕ} → Changed geo image kind n b i → Renewed geo image kind n b i
+renewed p = record { here = p .here; old-gone = λ c j e. inl (p .old-dead c j e); other = p .other }
+
+-- what a test says of both
+pub gone-as : (f : Slot → Bool) (t : Bool) → f Dead ≡ t → f Superseded ≡ t → {s : Slot} → (s ≡ Dead) ⊎ (s ≡ Superseded) → f s ≡ t
+gone-as f t dead superseded (inl e) = ap f e ∙ dead
+gone-as f t dead superseded (inr e) = ap f e ∙ superseded
+
+module _ (geo : Geometry) (image : Image) (kind : ℕ → ℕ → Slot) (n b i : ℕ) (s : Sound geo image) (p : Renewed geo image kind n b i) where
+  old-not-live : {m c j : ℕ} → find geo image n ≡ At c j → kind c j ≡ Live m → ⊥
+  old-not-live {c = c} {j = j} o = not-live (gone-as isLive false refl refl (p .old-gone c j o))
+
   -- any slot is the one that was taken, or the old one, or as it was
   pub record Same (c j : ℕ) : Type 0 where
     pub slots : kind c j ≡ slot geo image c j
@@ -79,7 +96,7 @@ module _ (geo : Geometry) (image : Image) (kind : ℕ → ℕ → Slot) (n b i :
   live-before m c j l h other e =
       ⊎-elim
       (λ x. absurd (other (same-number e (here-is x))))
-      (λ w. ⊎-elim (λ o. absurd (not-live (ap isLive (p .old-dead c j o)) e)) (λ x. sym (x .slots) ∙ e) w)
+      (λ w. ⊎-elim (λ o. absurd (old-not-live o e)) (λ x. sym (x .slots) ∙ e) w)
       (which c j l h)
 
   -- n is live in the slot that was taken, and in no other
@@ -89,8 +106,8 @@ module _ (geo : Geometry) (image : Image) (kind : ℕ → ℕ → Slot) (n b i :
       (λ x. x)
       (λ w.
       ⊎-elim
-      (λ o. absurd (not-live (ap isLive (p .old-dead c j o)) e))
-      (λ x. absurd (x .not-old (live-found geo image s n c j (record { block = l; slot-of = h; live = sym (x .slots) ∙ e }))))
+      (λ o. absurd (old-not-live o e))
+      (λ x. absurd (x .not-old (live-found geo image (s .once) n c j (record { block = l; slot-of = h; live = sym (x .slots) ∙ e }))))
       w)
       (which c j l h)
 

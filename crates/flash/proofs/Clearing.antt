@@ -1,7 +1,7 @@
 -- Programming only clears bits: what a list of steps leaves of a word, unless one of them erases the word's block. Assumes nothing.
 use mathlib.Core.Path.{_≡_, refl, sym, ap, _∙_}
 use mathlib.Core.Logic.{_≢_}
-use mathlib.Core.Bool.{Bool, true, false, _||_}
+use mathlib.Core.Bool.{Bool, true, false, _||_, true≢false}
 use mathlib.Core.List.{List, [], _∷_, _++_}
 use Prim.Native.Nat.{ℕ, _/_, _<_}
 use native.Mathlib.Decide.{decLt, ℕ-discrete}
@@ -9,7 +9,7 @@ use native.Mathlib.Omega.{arith}
 use lib.Dec.{eqb}
 use lib.ListN.{length, length-set}
 use lib.Seq.{getD-set-same, getD-set-other, set-out}
-use borrow.Author.Tests.{eqb-false}
+use borrow.Author.Tests.{eqb-true, eqb-false}
 use Rattle.ranges.proofs.Tests.{neither-passes}
 use Rattle.bits.specs.Word.{isSet, programmed}
 use Rattle.bits.proofs.Programming.{programmed-never-sets}
@@ -19,6 +19,7 @@ use Rattle.image.specs.Words.{Image, word}
 use Rattle.flash.specs.declared.Step.{Step}
 use Rattle.flash.specs.declared.Step.the-variants.{Program, Erase}
 use Rattle.flash.specs.Steps.{programmedAt, erasedBlock, applied, run, erasuresIn, erasesBlock}
+use Rattle.flash.specs.Writing.{erasesVictim}
 use Rattle.flash.proofs.Erased.{erased-at-least, erased-elsewhere}
 
 -- one word programmed: it and every other word have only bits that they had
@@ -72,3 +73,12 @@ unfolding erasuresIn erasesBlock
 erases-none [] none b = refl
 erases-none (Program p w ∷ ss) none b = erases-none ss none b
 erases-none (Erase c ∷ ss) none b = absurd (omega arith)
+
+-- and the end of a reclaim erases the victim alone
+pub erases-victim : (geo : Geometry) (v count b : ℕ) → erasesBlock (erasesVictim geo v count) b ≡ true → b ≡ v
+unfolding erasesBlock
+erases-victim geo v count b e = go (eqb v b) refl e
+  where
+    go : (x : Bool) → eqb v b ≡ x → (x || false) ≡ true → b ≡ v
+    go true same t = sym (eqb-true v b same)
+    go false other t = absurd (true≢false (sym t))

@@ -1,16 +1,18 @@
 -- The erasing of a block: what every reading of the image is afterwards, and that the image stays sound where the block had no
--- live slot. Assumes nothing.
+-- live slot, or can be mended while its count is not programmed. Assumes nothing.
 use mathlib.Core.Path.{_≡_, refl, sym, ap, ap₂, _∙_}
-use mathlib.Core.Logic.{_≢_, dite}
-use mathlib.Core.Bool.{true, not, true≢false}
+use mathlib.Core.Logic.{_≢_, _⊎_, inl, inr, dite}
+use mathlib.Core.Bool.{true, not, _&&_, true≢false}
 use mathlib.Core.List.{List, [], _∷_, _++_}
 use Prim.Native.Nat.{ℕ, _+_, _-_, _*_, _/_, _%_, _^_, _<_, _≤_}
 use native.Mathlib.Nat.{mul-le-mul-right}
 use native.Mathlib.Decide.{decLt, ℕ-discrete}
 use native.Mathlib.Omega.{arith}
+use lib.Dec.{eqb}
 use lib.ListN.{length, getD, take, drop, replicate, length-append, length-take, length-drop, length-replicate, getD-replicate, List·getD-append}
 use lib.Seq.{getD-take, getD-drop, getD-append-add, length-take-le}
-use Rattle.ranges.proofs.Tests.{any-of, any-ext}
+use borrow.Author.Tests.{eq-eqb}
+use Rattle.ranges.proofs.Tests.{unless, all-of, any-ext}
 use Rattle.bits.specs.Word.{ones, isSet, programmed}
 use Rattle.bits.proofs.Bit.{set-bit, ones-bit}
 use Rattle.bits.proofs.Programming.{ones-leave}
@@ -21,19 +23,21 @@ use Rattle.geometry.proofs.Laws.{d-positive, place-block, low-in-block, map-in-
 use Rattle.image.specs.declared.Slot.the-variants.{Free, Live}
 use Rattle.image.specs.Words.{Image, Shaped, Words32, word, eraseCount, leastMapped, greatestMapped, freeMap, mapBit, entry, contents}
 use Rattle.image.specs.Slots.{slotOf, ownSlot, slot, isFree, isFaulty, find, mapOf}
-use Rattle.image.specs.Blocks.{full}
+use Rattle.image.specs.Blocks.{blank, full}
 use Rattle.image.specs.WellFormed.{ceiling, NoneSuperseded}
+use Rattle.image.specs.Mending.{countUnset}
 use Rattle.image.proofs.Entries.{free-slot}
-use Rattle.image.proofs.Own.{none-superseded, each-own}
+use Rattle.image.proofs.Own.{Once, none-superseded, each-own}
 use Rattle.image.proofs.Reading.{block-room, word-inside}
 use Rattle.image.proofs.Facts.{Sound}
+use Rattle.image.proofs.Mending.{Mendable, unset-count, least-bounds, mendable-sound}
 use Rattle.image.proofs.Finding.{find-same, map-same}
 use Rattle.image.proofs.Places.{apart, contents-at, contents-are, contents-long}
 use Rattle.flash.specs.declared.Step.{Step}
 use Rattle.flash.specs.declared.Step.the-variants.{Program, Erase}
 use Rattle.flash.specs.Steps.{erasedBlock, applied, run, leavesAsked}
 use Rattle.flash.proofs.Stores.{Exact, lastAsked, counts-erasures, count-one, last-here, last-other, exact-one, run-words}
-use Rattle.flash.proofs.Filling.{Ready}
+use Rattle.flash.proofs.Filling.{Ready, free-not-full}
 use Rattle.flash.proofs.Changed.{free-not-live}
 
 module _ (geo : Geometry) (image : Image) (v : ℕ) where
@@ -132,7 +136,7 @@ module _ (geo : Geometry) (image : Image) (shaped : Shaped geo image) (v : ℕ) 
 
 -- ---- the block erased and its count programmed
 
-module _ (geo : Geometry) (image : Image) (ready : Ready geo image) (v w : ℕ) (block : v < geo .blocks) (fits : w ≤ ceiling) where
+module _ (geo : Geometry) (image : Image) (ready : Ready geo image) (v w : ℕ) (block : v < geo .blocks) (fits : w < 2 ^ 32) where
   within : Limits geo
   within = ready .shaped .limits
 
@@ -154,7 +158,7 @@ module _ (geo : Geometry) (image : Image) (ready : Ready geo image) (v w : ℕ) 
         word-inside geo image (ready .shaped) block (low-in-block geo within {j = 0} (omega arith)),
       ))
       (ap (λ (x : ℕ). programmed x w) (erased-inside geo image (ready .shaped) v block eraseWord (low-in-block geo within (omega arith)))
-      ∙ ones-leave w (omega arith))
+      ∙ ones-leave w fits)
 
   last-image : wiped ≡ run geo bare (Program (place geo v eraseWord) w ∷ [])
   unfolding run applied
@@ -167,7 +171,7 @@ module _ (geo : Geometry) (image : Image) (ready : Ready geo image) (v w : ℕ) 
   pub wiped-long : length wiped ≡ length image
   wiped-long = ap length last-image ∙ count-exact .long ∙ erased-long geo image (ready .shaped) v block
 
-  wiped-word : (q : ℕ) → word wiped q ≡ lastAsked (Program (place geo v eraseWord) w ∷ []) q (word bare q)
+  pub wiped-word : (q : ℕ) → word wiped q ≡ lastAsked (Program (place geo v eraseWord) w ∷ []) q (word bare q)
   wiped-word q = ap (λ (x : Image). word x q) last-image ∙ count-exact .words q
 
   wiped-inside : (j : ℕ) → j < blockLength geo → j ≢ eraseWord → word wiped (place geo v j) ≡ ones
@@ -182,7 +186,7 @@ module _ (geo : Geometry) (image : Image) (ready : Ready geo image) (v w : ℕ) 
       ∙ last-other w (word bare (place geo c j)) (apart geo l (low-in-block geo within (omega arith)) (λ p e. n p))
       ∙ erased-outside geo image (ready .shaped) v block c j n l
 
-  wiped-shaped : Shaped geo wiped
+  pub wiped-shaped : Shaped geo wiped
   wiped-shaped = record { limits = within; long = wiped-long ∙ ready .shaped .long }
 
   pub wiped-words : Words32 wiped
@@ -242,6 +246,10 @@ module _ (geo : Geometry) (image : Image) (ready : Ready geo image) (v w : ℕ) 
   pub wiped-free : (j : ℕ) → j < d geo → slot geo wiped v j ≡ Free
   wiped-free j l = each-own current block l ∙ own-free j l
 
+  pub wiped-blank : blank geo wiped v ≡ true
+  unfolding blank
+  wiped-blank = all-of (d geo) (λ j l. ap isFree (wiped-free j l))
+
   pub wiped-slot : (c j : ℕ) → c < geo .blocks → c ≢ v → j < d geo → slot geo wiped c j ≡ slot geo image c j
   wiped-slot c j l n h = each-own current l h ∙ own-of-other c j l n h
 
@@ -283,19 +291,46 @@ module _ (geo : Geometry) (image : Image) (ready : Ready geo image) (v w : ℕ) 
         ∙ wiped-inside (contentWord geo j m) (content-word-inside geo within l h) (λ e. omega (arith, content-word-after geo within j m))
 
     never-full : full geo wiped v ≡ true → ⊥
-    unfolding full
     never-full f =
         let first = d-positive geo within in
-        true≢false (sym f ∙ ap not (any-of (d geo) (λ j. isFree (slot geo wiped v j)) first (ap isFree (wiped-free 0 first))))
+        true≢false (sym f ∙ free-not-full geo wiped v first (ap isFree (wiped-free 0 first)))
 
-    pub wiped-sound : Sound geo wiped
-    wiped-sound =
+    -- a count that is not above the ceiling, or, until it is programmed, ones: K4 (iii)
+    count-kept : (w ≤ ceiling) ⊎ (w ≡ ones) → (c : ℕ) → c < geo .blocks → (eraseCount geo wiped c ≤ ceiling) ⊎ (countUnset geo wiped c ≡ true)
+    unfolding countUnset
+    count-kept known c l = dite (ℕ-discrete c v) (λ p. rw p (here known)) (λ n. inl (rw (wiped-count-other c n) (ready .sound .worn c l)))
+      where
+        here : (w ≤ ceiling) ⊎ (w ≡ ones) → (eraseCount geo wiped v ≤ ceiling) ⊎ ((blank geo wiped v && eqb (eraseCount geo wiped v) ones) ≡ true)
+        here (inl low) = inl (rw wiped-count low)
+        here (inr unset) = inr (rw (wiped-blank, wiped-count) (eq-eqb w ones unset))
+
+    -- of the block's own count alone can it be said that it was not programmed
+    unset-here : (c : ℕ) → c < geo .blocks → countUnset geo wiped c ≡ true → c ≡ v
+    unset-here c l t =
+        dite (ℕ-discrete c v) (λ p. p) (λ n. absurd (omega (arith, unset-count geo wiped c t, wiped-count-other c n, ready .sound .worn c l)))
+
+    bounded-kept :
+        (c j m : ℕ) →
+        c < geo .blocks →
+        j < d geo →
+        full geo wiped c ≡ true →
+        slot geo wiped c j ≡ Live m →
+        (leastMapped geo wiped c ≤ m) × (m ≤ greatestMapped geo wiped c)
+    bounded-kept c j m l h f e =
+        let was = live-was c j m l h e in
+        let same = bounds-of-other c (was .0) in
+        let were = ready .sound .bounded c j m l h (sym (full-of-other c l (was .0)) ∙ f) (was .1) in
+        (rw (same .0) (were .0), rw (same .1) (were .1))
+
+    wiped-once : Once geo (slot geo wiped)
+    wiped-once n c c' j j' l l' h h' e e' = ready .sound .once n c c' j j' l l' h h' (live-was c j n l h e .1) (live-was c' j' n l' h' e' .1)
+
+    pub wiped-mendable : (w ≤ ceiling) ⊎ (w ≡ ones) → Mendable geo wiped
+    wiped-mendable known =
         let s = ready .sound in
         record {
-          worn = λ c l.
-              dite (ℕ-discrete c v)
-              (λ p. rw (ap (eraseCount geo wiped) p ∙ wiped-count) fits)
-              (λ n. rw (wiped-count-other c n) (s .worn c l));
+          worn = count-kept known;
+          single = λ c c' l l' t t'. unset-here c l t ∙ sym (unset-here c' l' t');
           map = λ c j l h.
               let covered : j < 32 * k geo = omega (arith, map-covers geo within) in
               dite (ℕ-discrete c v)
@@ -313,7 +348,7 @@ module _ (geo : Geometry) (image : Image) (ready : Ready geo image) (v w : ℕ) 
               dite (ℕ-discrete c v)
               (λ p. rw p (ap isFaulty (wiped-free j h)))
               (λ n. ap isFaulty (wiped-slot c j l n h) ∙ s .proper c j l h);
-          once = λ n c c' j j' l l' h h' e e'. s .once n c c' j j' l l' h h' (live-was c j n l h e .1) (live-was c' j' n l' h' e' .1);
+          once = wiped-once;
           unbounded = λ c l f.
               dite (ℕ-discrete c v)
               (λ p. rw p bounds-of-v)
@@ -321,20 +356,24 @@ module _ (geo : Geometry) (image : Image) (ready : Ready geo image) (v w : ℕ) 
               let same = bounds-of-other c n in
               let were = s .unbounded c l (sym (full-of-other c l n) ∙ f) in
               (same .0 ∙ were .0, same .1 ∙ were .1));
-          bounded = λ c j m l h f e.
-              let was = live-was c j m l h e in
-              let same = bounds-of-other c (was .0) in
-              let were = s .bounded c j m l h (sym (full-of-other c l (was .0)) ∙ f) (was .1) in
-              (rw (same .0) (were .0), rw (same .1) (were .1));
-          closed = λ c l f.
-              dite (ℕ-discrete c v)
-              (λ p. absurd (never-full (ap (full geo wiped) (sym p) ∙ f)))
-              (λ n.
-              let same = bounds-of-other c n in
-              let were = s .closed c l (sym (full-of-other c l n) ∙ f) in
-              (λ e. were .0 (sym (same .0) ∙ e), λ e. were .1 (sym (same .1) ∙ e)));
-          current = current;
+          bounded = λ c j m l h f e. let both = bounded-kept c j m l h f e in (least-bounds geo wiped c m (inr (both .0)), both .1);
         }
+
+    closed-kept : (c : ℕ) → c < geo .blocks → full geo wiped c ≡ true → (leastMapped geo wiped c ≢ ones) × (greatestMapped geo wiped c ≢ ones)
+    closed-kept c l f =
+        dite (ℕ-discrete c v)
+        (λ p. absurd (never-full (ap (full geo wiped) (sym p) ∙ f)))
+        (λ n.
+        let same = bounds-of-other c n in
+        let were = ready .sound .closed c l (sym (full-of-other c l n) ∙ f) in
+        (λ e. were .0 (sym (same .0) ∙ e), λ e. were .1 (sym (same .1) ∙ e)))
+
+    -- with its count the image is sound
+    pub wiped-sound : w ≤ ceiling → Sound geo wiped
+    wiped-sound low =
+        mendable-sound geo wiped (wiped-mendable (inl low)) current
+        (λ c l. unless (countUnset geo wiped c) (λ t. omega (arith, low, wiped-count, unset-count geo wiped v (rw (unset-here c l t) at t))))
+        closed-kept
 
     -- a slot that was live is in another block too
     in-another : {c j n : ℕ} → j < d geo → slot geo image c j ≡ Live n → c ≢ v
@@ -343,12 +382,12 @@ module _ (geo : Geometry) (image : Image) (ready : Ready geo image) (v w : ℕ) 
     -- every number is found where it was, with its contents
     pub wiped-found : (n : ℕ) → find geo wiped n ≡ find geo image n
     wiped-found n =
-        find-same geo image wiped n wiped-sound
+        find-same geo image wiped n wiped-once
         (λ c j l h e. wiped-slot c j l (in-another h e) h ∙ e)
         (λ c j l h e. live-was c j n l h e .1)
 
     pub wiped-map : (n : ℕ) → mapOf geo wiped n ≡ mapOf geo image n
     wiped-map n = map-same geo image wiped n (wiped-found n) (λ c j l h e. wiped-contents c j l (in-another h e) h)
 
-    pub wiped-ready : Ready geo wiped
-    wiped-ready = record { shaped = wiped-shaped; words = wiped-words; sound = wiped-sound }
+    pub wiped-ready : w ≤ ceiling → Ready geo wiped
+    wiped-ready low = record { shaped = wiped-shaped; words = wiped-words; sound = wiped-sound low }

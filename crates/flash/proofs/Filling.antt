@@ -1,12 +1,14 @@
 -- (a) to (f) of a placing: each step leaves the asked word, and what every word of the image is afterwards. Assumes nothing.
 use mathlib.Core.Path.{_≡_, refl, sym, ap, ap₂, _∙_}
 use mathlib.Core.Logic.{_≢_}
+use mathlib.Core.Bool.{true, false, not}
 use mathlib.Core.List.{List, _++_}
-use Prim.Native.Nat.{ℕ, _+_, _/_, _%_, _^_, _<_}
+use Prim.Native.Nat.{ℕ, _+_, _/_, _%_, _^_, _<_, _≤_}
 use native.Mathlib.Omega.{arith}
 use lib.ListN.{length, getD}
 use borrow.Author.Tests.{eqb-true}
-use Rattle.ranges.proofs.Tests.{both-pass}
+use Rattle.ranges.specs.Range.{listBelow}
+use Rattle.ranges.proofs.Tests.{both-pass, any-of}
 use Rattle.bits.specs.Word.{ones, bit, cleared, programmed}
 use Rattle.bits.proofs.Clearing.{cleared-set, cleared-le}
 use Rattle.bits.proofs.Programming.{clearing-leaves, ones-leave}
@@ -19,12 +21,14 @@ use Rattle.image.specs.declared.Found.{Found}
 use Rattle.image.specs.declared.Found.the-variants.{At, Nothing}
 use Rattle.image.specs.Words.{Image, Shaped, Words32, word, freeMap, entry, contents}
 use Rattle.image.specs.Slots.{validBit, currentBit, slot, isFree, find}
+use Rattle.image.specs.Blocks.{full}
 use Rattle.image.proofs.Own.{free-read}
 use Rattle.image.proofs.Reading.{word-inside, entry-inside, map-inside}
 use Rattle.image.proofs.Facts.{Sound}
 use Rattle.image.proofs.Finding.{LiveAt, found-live}
 use Rattle.image.proofs.Places.{apart, contents-at}
 use Rattle.flash.specs.declared.Step.{Step}
+use Rattle.flash.specs.declared.Step.the-variants.{Program}
 use Rattle.flash.specs.Steps.{run}
 use Rattle.flash.specs.Placing.{entryAt, programsEntry, takesSlot, outdates, storesContents, beginsEntry, completesEntry, retires, fillsSlot}
 use Rattle.flash.proofs.Stores.{Exact, lastAsked, run-append, last-here, last-other, last-list-here, last-list-other, exact-none, exact-one, exact-then, exact-list}
@@ -68,6 +72,11 @@ pub record Target (geo : Geometry) (image : Image) (n : ℕ) (ws : List ℕ) (b 
   pub slot-of : i < d geo
   pub free : slot geo image b i ≡ Free
 
+-- a block with a free slot is not full
+pub free-not-full : (geo : Geometry) (image : Image) (b : ℕ) {j : ℕ} → j < d geo → isFree (slot geo image b j) ≡ true → full geo image b ≡ false
+unfolding full
+free-not-full geo image b l e = ap not (any-of (d geo) (λ j. isFree (slot geo image b j)) l e)
+
 module _ (geo : Geometry) (image : Image) (n : ℕ) (ws : List ℕ) (b i : ℕ) (ready : Ready geo image) (target : Target geo image n ws b i) where
   abbrev old : Found
   old = find geo image n
@@ -99,15 +108,15 @@ module _ (geo : Geometry) (image : Image) (n : ℕ) (ws : List ℕ) (b i : ℕ) 
   map-in : mapWord i < blockLength geo
   map-in = low-in-block geo within map-before
 
-  map-not-entry : (c : ℕ) {j : ℕ} → j < d geo → map-place ≢ place geo c (entryWord geo j)
+  pub map-not-entry : (c : ℕ) {j : ℕ} → j < d geo → map-place ≢ place geo c (entryWord geo j)
   map-not-entry c l = apart geo map-in (entry-in-block geo within l) (λ p e. omega (arith, map-before))
 
-  map-not-content : (j : ℕ) → j < sectorWords → map-place ≢ content-place j
+  pub map-not-content : (j : ℕ) → j < sectorWords → map-place ≢ content-place j
   map-not-content j l =
       apart geo map-in (content-word-inside geo within (target .slot-of) l)
       (λ p e. omega (arith, map-before, management-fits geo within, content-word-after geo within i j))
 
-  entry-not-content : (c : ℕ) {j : ℕ} → j < d geo → (m : ℕ) → m < sectorWords → place geo c (entryWord geo j) ≢ content-place m
+  pub entry-not-content : (c : ℕ) {j : ℕ} → j < d geo → (m : ℕ) → m < sectorWords → place geo c (entryWord geo j) ≢ content-place m
   entry-not-content c l m h =
       apart geo (entry-in-block geo within l) (content-word-inside geo within (target .slot-of) h)
       (λ p e. omega (arith, entry-word-inside geo within l, content-word-after geo within i m))
@@ -119,7 +128,7 @@ module _ (geo : Geometry) (image : Image) (n : ℕ) (ws : List ℕ) (b i : ℕ) 
   old-live : {c j : ℕ} → old ≡ At c j → LiveAt geo image n c j
   old-live {c} {j} e = found-live geo image n c j e
 
-  old-elsewhere : {c j : ℕ} → old ≡ At c j → entry-place ≢ place geo c (entryWord geo j)
+  pub old-elsewhere : {c j : ℕ} → old ≡ At c j → entry-place ≢ place geo c (entryWord geo j)
   old-elsewhere {c} {j} e =
       apart geo (entry-in-block geo within (target .slot-of)) (entry-in-block geo within (old-live e .slot-of))
       (λ p q.
@@ -130,7 +139,7 @@ module _ (geo : Geometry) (image : Image) (n : ℕ) (ws : List ℕ) (b i : ℕ) 
 
   -- ---- the words that stood there
 
-  entry-free : word image entry-place ≡ ones
+  pub entry-free : word image entry-place ≡ ones
   unfolding entry
   entry-free = eqb-true (entry geo image b i) ones (both-pass _ _ (sym (free-read geo image b i) ∙ ap isFree (target .free)) .0)
 
@@ -181,21 +190,21 @@ module _ (geo : Geometry) (image : Image) (n : ℕ) (ws : List ℕ) (b i : ℕ) 
     pub contents : (j : ℕ) → j < sectorWords → q ≢ content-place j
     pub old : NotEntry geo old q
 
-  exact-A : Exact geo image A
+  pub exact-A : Exact geo image A
   unfolding freeMap
   exact-A =
       exact-one geo image map-place (cleared (freeMap geo image b i) (i % 32))
       (map-inside geo image (ready .shaped) (target .block) (omega (arith, map-covers geo within, target .slot-of)))
       (clearing-leaves (freeMap geo image b i) (i % 32) (ready .words .small map-place))
 
-  untouched-A : {q : ℕ} → q ≢ map-place → word after-A q ≡ word image q
+  pub untouched-A : {q : ℕ} → q ≢ map-place → word after-A q ≡ word image q
   untouched-A {q} m = exact-A .words q ∙ last-other (cleared (freeMap geo image b i) (i % 32)) (word image q) m
 
-  entry-small : (c j : ℕ) → entry geo image c j < 2 ^ 32
+  pub entry-small : (c j : ℕ) → entry geo image c j < 2 ^ 32
   unfolding entry
   entry-small c j = ready .words .small (place geo c (entryWord geo j))
 
-  old-word : {c j : ℕ} → old ≡ At c j → word after-A (place geo c (entryWord geo j)) ≡ entryAt geo image old
+  pub old-word : {c j : ℕ} → old ≡ At c j → word after-A (place geo c (entryWord geo j)) ≡ entryAt geo image old
   unfolding entry
   old-word {c} {j} e = untouched-A (λ q. map-not-entry c (old-live e .slot-of) (sym q)) ∙ sym (ap (entryAt geo image) e)
 
@@ -206,7 +215,7 @@ module _ (geo : Geometry) (image : Image) (n : ℕ) (ws : List ℕ) (b i : ℕ) 
       go (At c j) = entry-small c j
       go Nothing = omega arith
 
-  exact-B : Exact geo after-A B
+  pub exact-B : Exact geo after-A B
   exact-B =
       entry-exact geo outdated old after-A
       (λ c j e. (
@@ -215,22 +224,27 @@ module _ (geo : Geometry) (image : Image) (n : ℕ) (ws : List ℕ) (b i : ℕ) 
             ∙ clearing-leaves (entryAt geo image old) currentBit old-small,
       ))
 
-  untouched-B : {q : ℕ} → q ≢ map-place → NotEntry geo old q → word after-B q ≡ word image q
+  pub untouched-B : {q : ℕ} → q ≢ map-place → NotEntry geo old q → word after-B q ≡ word image q
   untouched-B {q} m o =
       exact-B .words q ∙ entry-other geo outdated old (word after-A q) o ∙ untouched-A m
 
   long-B : length after-B ≡ length image
   long-B = exact-B .long ∙ exact-A .long
 
-  exact-C : Exact geo after-B C
-  exact-C =
-      exact-list content-place (λ j. getD ws j 0) geo after-B sectorWords content-own
-      (λ j l. (
+  -- the first words of the contents
+  pub exact-first : (m : ℕ) → m ≤ sectorWords → Exact geo after-B (listBelow m (λ j. Program (content-place j) (getD ws j 0)))
+  exact-first m most =
+      exact-list content-place (λ j. getD ws j 0) geo after-B m (λ j k p q. content-own j k (omega arith) (omega arith))
+      (λ j r.
+      let l : j < sectorWords = omega arith in (
         omega (arith, long-B, word-inside geo image (ready .shaped) (target .block) (content-word-inside geo within (target .slot-of) l)),
         ap (λ (w : ℕ). programmed w (getD ws j 0))
-            (untouched-B (λ e. map-not-content j l (sym e)) (λ c m e q. entry-not-content c (old-live e .slot-of) j l (sym q)) ∙ content-free j l)
+            (untouched-B (λ e. map-not-content j l (sym e)) (λ c k e q. entry-not-content c (old-live e .slot-of) j l (sym q)) ∙ content-free j l)
             ∙ ones-leave (getD ws j 0) (target .words .small j),
       ))
+
+  exact-C : Exact geo after-B C
+  exact-C = exact-first sectorWords (omega arith)
 
   untouched-C : {q : ℕ} → ((j : ℕ) → j < sectorWords → q ≢ content-place j) → word after-C q ≡ word after-B q
   untouched-C {q} n = exact-C .words q ∙ last-list-other content-place (λ j. getD ws j 0) sectorWords (word after-B q) n
@@ -244,7 +258,7 @@ module _ (geo : Geometry) (image : Image) (n : ℕ) (ws : List ℕ) (b i : ℕ) 
   small : n < 2 ^ 29
   small = omega (arith, logical-small geo within, target .number)
 
-  exact-D : Exact geo after-C D
+  pub exact-D : Exact geo after-C D
   exact-D =
       exact-one geo after-C entry-place (0xE0000000 + n) (omega (arith, long-C, entry-fits))
       (ap (λ (w : ℕ). programmed w (0xE0000000 + n))
@@ -261,7 +275,7 @@ module _ (geo : Geometry) (image : Image) (n : ℕ) (ws : List ℕ) (b i : ℕ) 
       let less : cleared (0xE0000000 + n) 29 ≡ 0xC0000000 + n = cleared-set (0xE0000000 + n) 29 set ∙ omega arith in
       ap (programmed (0xE0000000 + n)) (sym less) ∙ clearing-leaves (0xE0000000 + n) 29 (omega (arith, small)) ∙ less
 
-  exact-E : Exact geo after-D E
+  pub exact-E : Exact geo after-D E
   exact-E =
       exact-one geo after-D entry-place (0xC0000000 + n) (omega (arith, exact-D .long, long-C, entry-fits))
       (ap (λ (w : ℕ). programmed w (0xC0000000 + n)) (exact-D .words entry-place ∙ last-here entry-place (0xE0000000 + n) (word after-C entry-place))
@@ -274,7 +288,7 @@ module _ (geo : Geometry) (image : Image) (n : ℕ) (ws : List ℕ) (b i : ℕ) 
       ∙ exact-D .words q
       ∙ last-other (0xE0000000 + n) (word after-C q) n'
 
-  old-outdated : {c j : ℕ} → old ≡ At c j → word after-E (place geo c (entryWord geo j)) ≡ outdated
+  pub old-outdated : {c j : ℕ} → old ≡ At c j → word after-E (place geo c (entryWord geo j)) ≡ outdated
   old-outdated {c} {j} e =
       untouched-E (λ q. old-elsewhere e (sym q))
       ∙ untouched-C (entry-not-content c (old-live e .slot-of))
@@ -307,7 +321,7 @@ module _ (geo : Geometry) (image : Image) (n : ℕ) (ws : List ℕ) (b i : ℕ) 
       (exact-then geo after-C D (E ++ F) exact-D
       (exact-then geo after-D E F exact-E exact-F))))
 
-  last-image : filled ≡ run geo after-E F
+  pub last-image : filled ≡ run geo after-E F
   unfolding fillsSlot
   last-image =
       run-append geo image A (B ++ (C ++ (D ++ (E ++ F))))
@@ -338,12 +352,14 @@ module _ (geo : Geometry) (image : Image) (n : ℕ) (ws : List ℕ) (b i : ℕ) 
       ∙ exact-E .words entry-place
       ∙ last-here entry-place (0xC0000000 + n) (word after-D entry-place)
 
-  pub filled-content : (j : ℕ) → j < sectorWords → word filled (content-place j) ≡ getD ws j 0
-  filled-content j l =
-      after-F (λ c m e q. entry-not-content c (old-live e .slot-of) j l (sym q))
-      ∙ untouched-E (λ q. entry-not-content b (target .slot-of) j l (sym q))
+  pub stored-content : (j : ℕ) → j < sectorWords → word after-E (content-place j) ≡ getD ws j 0
+  stored-content j l =
+      untouched-E (λ q. entry-not-content b (target .slot-of) j l (sym q))
       ∙ exact-C .words (content-place j)
       ∙ last-list-here content-place (λ j. getD ws j 0) sectorWords (word after-B (content-place j)) content-own l
+
+  pub filled-content : (j : ℕ) → j < sectorWords → word filled (content-place j) ≡ getD ws j 0
+  filled-content j l = after-F (λ c m e q. entry-not-content c (old-live e .slot-of) j l (sym q)) ∙ stored-content j l
 
   pub filled-old : {c j : ℕ} → old ≡ At c j → word filled (place geo c (entryWord geo j)) ≡ cleared (cleared (entry geo image c j) currentBit) validBit
   filled-old {c} {j} e =

@@ -32,10 +32,10 @@ use Rattle.flash.specs.Ahead.{placementSteps, liveBefore, movedTo, moved
 use Rattle.flash.proofs.Filling.{Ready, Target}
 use Rattle.flash.proofs.Changed.{not-live, free-not-live, other-place}
 use Rattle.flash.proofs.Ahead.{placing-ahead}
-use Rattle.flash.proofs.Moving.{copy-inside}
+use Rattle.flash.proofs.Moving.{InOrder, copy-inside}
 use Rattle.flash.proofs.Reclaimed.{Reclaimed}
 use Rattle.flash.proofs.Chosen.{blank-slot}
-use Rattle.flash.proofs.Written.{Sector, Reclaimable, none-open, one-blank, blank-in, is-blank, apart, spare, reclaim-leaves, victim-blank, target-blank, target-open}
+use Rattle.flash.proofs.Written.{Sector, Reclaimable, none-open, one-blank, blank-in, is-blank, apart, spare, reclaim-leaves, reclaim-order, victim-blank, target-blank, target-open}
 use Rattle.flash.proofs.Copies.{TakenUpTo, free-of-taken, map-of-taken, placing-step}
 
 module _
@@ -47,14 +47,17 @@ module _
     t = leastWornBlank geo image
 
     abbrev base : Image
-    base = run geo image (reclaiming geo image v)
+    base = run geo image (reclaiming geo image v (leastWornBlank geo image))
 
     -- how many copies there are
     abbrev copies : ℕ
     copies = liveSlots geo image v
 
-    r : Reclaimed geo image v t (reclaiming geo image v)
+    r : Reclaimed geo image v t (reclaiming geo image v (leastWornBlank geo image))
     r = reclaim-leaves geo image start must v victim-is
+
+    order : InOrder geo image base v t (d geo)
+    order = reclaim-order geo image start must v victim-is
 
     target-in : t < geo .blocks
     target-in = blank-in geo image start must v victim-is
@@ -101,8 +104,8 @@ module _
           first-is (geo .blocks) (isOpen geo base) t (omega (arith, target-in))
               (λ c h. only-target-open c (omega (arith, target-in)) (λ e. omega arith))
               (λ k. opened),
-          first-is (d geo) (λ j. isFree (slot geo base t j)) copies (omega (arith, spare geo image start must v victim-is)) (r .used)
-              (λ k. ap isFree (r .left-free copies (omega arith) k)),
+          first-is (d geo) (λ j. isFree (slot geo base t j)) copies (omega (arith, spare geo image start must v victim-is)) (order .used)
+              (λ k. ap isFree (order .left-free copies (omega arith) k)),
         )
 
     -- nothing was copied: both are blank, and no other
@@ -211,13 +214,9 @@ module _
         at-last (λ b. TakenUpTo geo base b copies)
         (λ none-live.
         record { block = victim-is .block; inside = inside; before = λ j l. absurd (omega arith); behind = λ j l h. r .emptied j h })
-        (record { block = target-in; inside = inside; before = r .used; behind = r .left-free })
+        (record { block = target-in; inside = inside; before = order .used; behind = order .left-free })
 
     -- ---- where each number is found
-
-    goes-inside : (j : ℕ) → j < d geo → liveBefore geo image v j < d geo
-    goes-inside =
-        copy-inside geo image v t start (victim-is .block) target-in different was-free (spare geo image start must v victim-is)
 
     -- a number and its entry: in the other block those of the victim, elsewhere as before
     record Goes (x : ℕ) (f : Found) : Type 0 where
@@ -229,11 +228,11 @@ module _
       where
         moves : (i : ℕ) → i < d geo → slot geo image v i ≡ Live x → Goes x (At v i)
         moves i l e =
-            let copied = r .copies i x l e in
+            let copied = order .copies i x l e in
             record {
               found =
-                  live-found geo base (r .ready .sound) x t (liveBefore geo image v i)
-                  (record { block = target-in; slot-of = goes-inside i l; live = copied .0 })
+                  live-found geo base (r .ready .sound .once) x t (liveBefore geo image v i)
+                  (record { block = target-in; slot-of = copy-inside geo image v l; live = copied .0 })
                   ∙ sym (rw (eq-eqb v v refl));
               entry = rw (eq-eqb v v refl) (copied .1);
             }
@@ -243,7 +242,7 @@ module _
             let n' : c ≢ t = λ q. free-not-live (ap (λ (y : ℕ). slot geo image y i) q ∙ was-free i h) e in
             record {
               found =
-                  live-found geo base (r .ready .sound) x c i (record { block = l; slot-of = h; live = r .others c i l n n' h ∙ e })
+                  live-found geo base (r .ready .sound .once) x c i (record { block = l; slot-of = h; live = r .others c i l n n' h ∙ e })
                   ∙ sym (rw (ne-eqb c v n));
               entry = rw (ne-eqb c v n) (r .entries c i l n n' h);
             }
@@ -273,7 +272,7 @@ module _
         goes-there q =
             ap (movedTo geo image v t) (sym q)
             ∙ sym (goes x .found)
-            ∙ live-found geo base (r .ready .sound) x t j (record { block = target-in; slot-of = l; live = e })
+            ∙ live-found geo base (r .ready .sound .once) x t j (record { block = target-in; slot-of = l; live = e })
 
         go : (f : Found) → find geo image x ≡ f → liveIn geo image v x ≡ true
         go Nothing q =
@@ -307,8 +306,8 @@ module _
         go : (b : Bool) → liveIn geo image v x ≡ b → liveIn geo base t x ≡ b
         go true e =
             let was = any-at (d geo) (λ i. isLiveFor x (slot geo image v i)) e in
-            any-of (d geo) (λ j. isLiveFor x (slot geo base t j)) (goes-inside (was .0) (was .1))
-            (live-is-for (r .copies (was .0) x (was .1) (live-for x (slot geo image v (was .0)) (was .2)) .0))
+            any-of (d geo) (λ j. isLiveFor x (slot geo base t j)) (copy-inside geo image v (was .1))
+            (live-is-for (order .copies (was .0) x (was .1) (live-for x (slot geo image v (was .0)) (was .2)) .0))
         go false e =
             unless (liveIn geo base t x)
             (λ q.

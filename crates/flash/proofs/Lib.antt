@@ -1,7 +1,10 @@
 pub mod Stores
 pub mod Parts
+pub mod Along
+pub mod Joins
 pub mod Filling
 pub mod Changed
+pub mod Taken
 pub mod Placed
 pub mod Kept
 pub mod Ahead
@@ -14,9 +17,11 @@ pub mod Moving
 pub mod Reclaimed
 pub mod Chosen
 pub mod Written
+pub mod CopiesInto
 pub mod Copies
 pub mod LastPlacing
 pub mod Alike
 pub mod Tables
+pub mod Invalidated
 pub mod Released
 pub mod Planned

@@ -9,7 +9,7 @@ use native.Mathlib.Omega.{arith}
 use lib.Dec.{eqb}
 use lib.ListN.{length, getD}
 use Rattle.ranges.specs.Range.{one-if}
-use Rattle.ranges.proofs.Tests.{any-of, any-ext}
+use Rattle.ranges.proofs.Tests.{any-ext}
 use Rattle.ranges.proofs.Searches.{best-le, best-ext}
 use Rattle.bits.specs.Word.{ones, isSet, cleared, programmed}
 use Rattle.bits.proofs.Bit.{clear-bit}
@@ -37,8 +37,9 @@ use Rattle.flash.specs.Steps.{run, wordsIn}
 use Rattle.flash.specs.Placing.{leastLive, greatestLive, closesBlock, fillsSlot, placing}
 use Rattle.flash.proofs.Stores.{Exact, lastAsked, run-append, run-none, last-append, last-here, last-other, last-nothing, exact-none, exact-one, exact-then, run-words}
 use Rattle.flash.proofs.Counts.{placing-words, placing-erasures}
-use Rattle.flash.proofs.Changed.{Changed, once-kept}
-use Rattle.flash.proofs.Filling.{Ready, Target, Elsewhere, fills-exact, filled-map, filled-entry, filled-content, filled-old, filled-elsewhere}
+use Rattle.flash.proofs.Changed.{Changed, renewed, once-kept}
+use Rattle.flash.proofs.Taken.{Readings}
+use Rattle.flash.proofs.Filling.{Ready, Target, Elsewhere, free-not-full, fills-exact, filled-map, filled-entry, filled-content, filled-old, filled-elsewhere}
 
 -- What a placing leaves, by slots: n in slot i of block b, with the contents ws; its old slot dead; all else as it was. (Words 1 and 2
 -- are another matter: they are written where the block fills.)
@@ -65,24 +66,28 @@ module _ (geo : Geometry) (image : Image) (n : ℕ) (ws : List ℕ) (b i : ℕ) 
   abbrev old : Found
   old = find geo image n
 
-  abbrev Away : ℕ → Type 0
+  abbrev pub Away : ℕ → Type 0
   Away q = Elsewhere geo image n ws b i ready target q
 
   within : Limits geo
   within = ready .shaped .limits
 
   -- neither word 1 nor word 2 of the block
-  abbrev NotBound : ℕ → Type 0
+  abbrev pub NotBound : ℕ → Type 0
   NotBound q = (v : ℕ) → 0 < v → v < 3 → q ≢ place geo b v
 
-  -- the words of an image after (a) to (f), whatever stands in words 1 and 2 of the block
-  record Words (after : Image) : Type 0 where
-    long : length after ≡ length image
-    map : word after (place geo b (mapWord i)) ≡ cleared (freeMap geo image b i) (i % 32)
-    entry-word : word after (place geo b (entryWord geo i)) ≡ 0xC0000000 + n
-    content : (j : ℕ) → j < sectorWords → word after (place geo b (contentWord geo i j)) ≡ getD ws j 0
-    old-entry : {c j : ℕ} → old ≡ At c j → word after (place geo c (entryWord geo j)) ≡ cleared (cleared (entry geo image c j) currentBit) validBit
-    elsewhere : {q : ℕ} → Away q → NotBound q → word after q ≡ word image q
+  -- the words of an image in which the slot was taken, whatever stands in its entry and contents, the old entry, and words 1 and 2 of the block
+  pub record Around (after : Image) : Type 0 where
+    pub long : length after ≡ length image
+    pub map : word after (place geo b (mapWord i)) ≡ cleared (freeMap geo image b i) (i % 32)
+    pub elsewhere : {q : ℕ} → Away q → NotBound q → word after q ≡ word image q
+
+  -- the words after (a) to (f), whatever stands in words 1 and 2 of the block
+  pub record Words (after : Image) : Type 0 where
+    pub around : Around after
+    pub entry-word : word after (place geo b (entryWord geo i)) ≡ 0xC0000000 + n
+    pub content : (j : ℕ) → j < sectorWords → word after (place geo b (contentWord geo i j)) ≡ getD ws j 0
+    pub old-entry : {c j : ℕ} → old ≡ At c j → word after (place geo c (entryWord geo j)) ≡ cleared (cleared (entry geo image c j) currentBit) validBit
 
   -- ---- which readings are elsewhere
 
@@ -96,7 +101,7 @@ module _ (geo : Geometry) (image : Image) (n : ℕ) (ws : List ℕ) (b i : ℕ) 
   slot-in-map l = omega (arith, map-covers geo within)
 
   -- a word before the entries, but for the slot's own map word
-  low-away : (c j : ℕ) → j < 3 + k geo → (c ≡ b → j ≡ mapWord i → ⊥) → Away (place geo c j)
+  pub low-away : (c j : ℕ) → j < 3 + k geo → (c ≡ b → j ≡ mapWord i → ⊥) → Away (place geo c j)
   low-away c j l n' =
       record {
         map = apart geo (low-in-block geo within l) (low-in-block geo within (map-in (slot-in-map (target .slot-of)))) n';
@@ -144,11 +149,11 @@ module _ (geo : Geometry) (image : Image) (n : ℕ) (ws : List ℕ) (b i : ℕ) 
   not-bound : (c : ℕ) {w : ℕ} → w < blockLength geo → 3 ≤ w → NotBound (place geo c w)
   not-bound c l m v p h = apart geo l (low-in-block geo within (omega arith)) (λ q e. omega arith)
 
-  -- ---- so what is left, by slots
+  -- ---- so what is read as before
 
-  module _ (after : Image) (left : Words after) where
-    shaped-after : Shaped geo after
-    shaped-after = record { limits = within; long = left .long ∙ ready .shaped .long }
+  module _ (after : Image) (left : Around after) where
+    pub around-shaped : Shaped geo after
+    around-shaped = record { limits = within; long = left .long ∙ ready .shaped .long }
 
     counts : (c : ℕ) → c < geo .blocks → eraseCount geo after c ≡ eraseCount geo image c
     unfolding eraseCount
@@ -182,14 +187,48 @@ module _ (geo : Geometry) (image : Image) (n : ℕ) (ws : List ℕ) (b i : ℕ) 
         ap (λ (w : ℕ). isSet w (i % 32)) (map-word-same i refl)
         ∙ clear-bit _ (i % 32) (cleared-here (freeMap geo image b i) (i % 32))
 
-    entry-here : entry geo after b i ≡ 0xC0000000 + n
-    unfolding entry
-    entry-here = left .entry-word
-
     entry-other :
         (c j : ℕ) → c < geo .blocks → j < d geo → (c ≡ b → j ≡ i → ⊥) → (old ≡ At c j → ⊥) → entry geo after c j ≡ entry geo image c j
     unfolding entry
     entry-other c j l h n' o = left .elsewhere (entry-away c j h n' o) (not-bound c (entry-in-block geo within h) (omega arith))
+
+    -- a slot that is neither the one taken nor the old one, by its own entry and map bit
+    pub own-other : (c j : ℕ) → c < geo .blocks → j < d geo → (c ≡ b → j ≡ i → ⊥) → (old ≡ At c j → ⊥) → ownSlot geo after c j ≡ slot geo image c j
+    unfolding ownSlot
+    own-other c j l h n' o =
+        ap₂ (slotOf (geo .logical)) (map-other c j l (slot-in-map h) n') (entry-other c j l h n' o)
+        ∙ sym (each-own (ready .sound .current) l h)
+
+    contents-other : (c j : ℕ) → c < geo .blocks → j < d geo → (c ≡ b → j ≡ i → ⊥) → contents geo after c j ≡ contents geo image c j
+    contents-other c j l h n' =
+        contents-are geo after c j (contents geo image c j) around-shaped l h (contents-long geo image (ready .shaped) l h)
+        (λ m q.
+        left .elsewhere (content-away c j m h q n')
+        (not-bound c (content-word-inside geo within h q) (omega (arith, content-word-after geo within j m)))
+        ∙ sym (contents-at geo image c j m q))
+
+    pub around-readings : Readings geo image after b i
+    around-readings = record { counts = counts; map-here = map-here; map-other = map-other; contents-other = contents-other }
+
+    -- words 1 and 2 of another block
+    low-other : (c v : ℕ) → v < 3 → c ≢ b → word after (place geo c v) ≡ word image (place geo c v)
+    low-other c v l n' =
+        left .elsewhere (low-away c v (omega arith) (λ p e. n' p))
+        (λ w p h. apart geo (low-in-block geo within (omega arith)) (low-in-block geo within (omega arith)) (λ q e. n' q))
+
+    pub bounds-other : (c : ℕ) → c ≢ b → (leastMapped geo after c ≡ leastMapped geo image c) × (greatestMapped geo after c ≡ greatestMapped geo image c)
+    unfolding leastMapped greatestMapped
+    bounds-other c n' = (low-other c leastWord (omega arith) n', low-other c greatestWord (omega arith) n')
+
+  -- ---- and what is left, by slots
+
+  module _ (after : Image) (left : Words after) where
+    same : Readings geo image after b i
+    same = around-readings after (left .around)
+
+    entry-here : entry geo after b i ≡ 0xC0000000 + n
+    unfolding entry
+    entry-here = left .entry-word
 
     -- by their own entries and map bits: n complete in the slot that was taken, the old entry not valid any more, all others as they were
     own-here : ownSlot geo after b i ≡ Live n
@@ -205,18 +244,12 @@ module _ (geo : Geometry) (image : Image) (n : ℕ) (ws : List ℕ) (b i : ℕ) 
         ∙ invalid-dead (geo .logical) (mapBit geo after c j) (cleared (cleared (entry geo image c j) currentBit) validBit)
         (clear-bit _ validBit (cleared-here (cleared (entry geo image c j) currentBit) validBit))
 
-    own-other : (c j : ℕ) → c < geo .blocks → j < d geo → (c ≡ b → j ≡ i → ⊥) → (old ≡ At c j → ⊥) → ownSlot geo after c j ≡ slot geo image c j
-    unfolding ownSlot
-    own-other c j l h n' o =
-        ap₂ (slotOf (geo .logical)) (map-other c j l (slot-in-map h) n') (entry-other c j l h n' o)
-        ∙ sym (each-own (ready .sound .current) l h)
-
     own-changed : Changed geo image (ownSlot geo after) n b i
-    own-changed = record { here = own-here; old-dead = own-old; other = own-other }
+    own-changed = record { here = own-here; old-dead = own-old; other = own-other after (left .around) }
 
     -- so no slot is superseded, and each is what its own entry and map bit say
     current : NoneSuperseded geo after
-    current = none-superseded geo after (once-kept geo image (ownSlot geo after) n b i (ready .sound) own-changed)
+    current = none-superseded geo after (once-kept geo image (ownSlot geo after) n b i (ready .sound) (renewed own-changed))
 
     here : slot geo after b i ≡ Live n
     here = each-own current (target .block) (target .slot-of) ∙ own-here
@@ -225,62 +258,93 @@ module _ (geo : Geometry) (image : Image) (n : ℕ) (ws : List ℕ) (b i : ℕ) 
     old-dead c j e = each-own current (old-live e .block) (old-live e .slot-of) ∙ own-old c j e
 
     other : (c j : ℕ) → c < geo .blocks → j < d geo → (c ≡ b → j ≡ i → ⊥) → (old ≡ At c j → ⊥) → slot geo after c j ≡ slot geo image c j
-    other c j l h n' o = each-own current l h ∙ own-other c j l h n' o
+    other c j l h n' o = each-own current l h ∙ own-other after (left .around) c j l h n' o
 
     contents-here : contents geo after b i ≡ ws
-    contents-here = contents-are geo after b i ws shaped-after (target .block) (target .slot-of) (target .long) (left .content)
+    contents-here = contents-are geo after b i ws (around-shaped after (left .around)) (target .block) (target .slot-of) (target .long) (left .content)
 
-    contents-other : (c j : ℕ) → c < geo .blocks → j < d geo → (c ≡ b → j ≡ i → ⊥) → contents geo after c j ≡ contents geo image c j
-    contents-other c j l h n' =
-        contents-are geo after c j (contents geo image c j) shaped-after l h (contents-long geo image (ready .shaped) l h)
-        (λ m q.
-        left .elsewhere (content-away c j m h q n')
-        (not-bound c (content-word-inside geo within h q) (omega (arith, content-word-after geo within j m)))
-        ∙ sym (contents-at geo image c j m q))
-
-    placed : Placed geo image after n ws b i
+    pub placed : Placed geo image after n ws b i
     placed =
         record {
-          long = left .long;
-          counts = counts;
-          map-here = map-here;
-          map-other = map-other;
+          long = left .around .long;
+          counts = same .counts;
+          map-here = same .map-here;
+          map-other = same .map-other;
           entry-here = entry-here;
-          entry-other = entry-other;
+          entry-other = entry-other after (left .around);
           current = current;
           changed = record { here = here; old-dead = old-dead; other = other };
           contents-here = contents-here;
-          contents-other = contents-other;
+          contents-other = same .contents-other;
         }
 
   -- ---- (a) to (f), then (g)
 
-  abbrev filled : Image
+  abbrev pub filled : Image
   filled = run geo image (fillsSlot geo image old n ws b i)
 
-  filled-words : Words filled
+  pub filled-words : Words filled
   filled-words =
       record {
-        long = fills-exact geo image n ws b i ready target .long;
-        map = filled-map geo image n ws b i ready target;
+        around =
+            record {
+              long = fills-exact geo image n ws b i ready target .long;
+              map = filled-map geo image n ws b i ready target;
+              elsewhere = λ e p. filled-elsewhere geo image n ws b i ready target e;
+            };
         entry-word = filled-entry geo image n ws b i ready target;
         content = filled-content geo image n ws b i ready target;
         old-entry = λ e. filled-old geo image n ws b i ready target e;
-        elsewhere = λ e p. filled-elsewhere geo image n ws b i ready target e;
       }
 
-  -- the block was not full, so words 1 and 2 are ones until (g)
-  not-full-before : full geo image b ≡ false
-  unfolding full
-  not-full-before = ap not (any-of (d geo) (λ j. isFree (slot geo image b j)) (target .slot-of) (ap isFree (target .free)))
+  -- whatever stands in words 1 and 2 of the block then
+  module _ (after : Image) (long : length after ≡ length image) (kept : (q : ℕ) → NotBound q → word after q ≡ word filled q) where
+    pub bounds-apart : Words after
+    bounds-apart =
+        record {
+          around =
+              record {
+                long = long;
+                map =
+                    kept _ (not-bound b (low-in-block geo within (map-in (slot-in-map (target .slot-of)))) (omega arith))
+                    ∙ filled-words .around .map;
+                elsewhere = λ e p. kept _ p ∙ filled-words .around .elsewhere e p;
+              };
+          entry-word = kept _ (not-bound b (entry-in-block geo within (target .slot-of)) (omega arith)) ∙ filled-words .entry-word;
+          content = λ j l.
+              kept _ (not-bound b (content-word-inside geo within (target .slot-of) l) (omega (arith, content-word-after geo within i j)))
+              ∙ filled-words .content j l;
+          old-entry = λ {c} e.
+              kept _ (not-bound c (entry-in-block geo within (old-live e .slot-of)) (omega arith))
+              ∙ filled-words .old-entry e;
+        }
 
-  least-blank : word filled (place geo b leastWord) ≡ ones
+    own-apart : (c j : ℕ) → j < d geo → ownSlot geo after c j ≡ ownSlot geo filled c j
+    unfolding ownSlot entry freeMap
+    own-apart c j l =
+        ap₂ (λ (w : ℕ). slotOf (geo .logical) (isSet w (j % 32)))
+        (kept _ (not-bound c (low-in-block geo within (map-in (slot-in-map l))) (omega arith)))
+        (kept _ (not-bound c (entry-in-block geo within l) (omega arith)))
+
+    pub slot-apart : (j : ℕ) → j < d geo → slot geo after b j ≡ slot geo filled b j
+    slot-apart j l =
+        each-own (current after bounds-apart) (target .block) l ∙ own-apart b j l ∙ sym (each-own (current filled filled-words) (target .block) l)
+
+    pub full-apart : full geo after b ≡ full geo filled b
+    unfolding full
+    full-apart = ap not (any-ext (d geo) (λ j l. ap isFree (slot-apart j l)))
+
+  -- the block was not full, so words 1 and 2 are ones until (g)
+  pub not-full-before : full geo image b ≡ false
+  not-full-before = free-not-full geo image b (target .slot-of) (ap isFree (target .free))
+
+  pub least-blank : word filled (place geo b leastWord) ≡ ones
   unfolding leastMapped
   least-blank =
       filled-elsewhere geo image n ws b i ready target (low-away b leastWord (omega arith) (λ p e. omega arith))
       ∙ ready .sound .unbounded b (target .block) not-full-before .0
 
-  greatest-blank : word filled (place geo b greatestWord) ≡ ones
+  pub greatest-blank : word filled (place geo b greatestWord) ≡ ones
   unfolding greatestMapped
   greatest-blank =
       filled-elsewhere geo image n ws b i ready target (low-away b greatestWord (omega arith) (λ p e. omega arith))
@@ -289,7 +353,7 @@ module _ (geo : Geometry) (image : Image) (n : ℕ) (ws : List ℕ) (b i : ℕ) 
   low-fits : (v : ℕ) → v < 3 → place geo b v < length filled
   low-fits v l =
       let inside : v < blockLength geo = low-in-block geo within (omega arith) in
-      omega (arith, filled-words .long, word-inside geo image (ready .shaped) (target .block) inside)
+      omega (arith, filled-words .around .long, word-inside geo image (ready .shaped) (target .block) inside)
 
   abbrev least-now : ℕ
   least-now = leastLive geo filled b
@@ -305,16 +369,16 @@ module _ (geo : Geometry) (image : Image) (n : ℕ) (ws : List ℕ) (b i : ℕ) 
   unfolding greatestLive
   greatest-fits = omega (arith, logical-small geo within, best-le (λ i r. true) (geo .logical) (liveIn geo filled b))
 
-  low-apart : place geo b greatestWord ≢ place geo b leastWord
+  pub low-apart : place geo b greatestWord ≢ place geo b leastWord
   low-apart e = omega arith
 
-  abbrev first-store : List Step
+  abbrev pub first-store : List Step
   first-store = Program (place geo b leastWord) least-now ∷ []
 
-  abbrev second-store : List Step
+  abbrev pub second-store : List Step
   second-store = Program (place geo b greatestWord) greatest-now ∷ []
 
-  first-exact : Exact geo filled first-store
+  pub first-exact : Exact geo filled first-store
   first-exact =
       exact-one geo filled (place geo b leastWord) least-now (low-fits leastWord (omega arith))
       (ap (λ (w : ℕ). programmed w least-now) least-blank ∙ ones-leave least-now least-fits)
@@ -330,11 +394,11 @@ module _ (geo : Geometry) (image : Image) (n : ℕ) (ws : List ℕ) (b i : ℕ) 
   both-exact : Exact geo filled (first-store ++ second-store)
   both-exact = exact-then geo filled first-store second-store first-exact second-exact
 
-  closes-full : full geo filled b ≡ true → closesBlock geo filled b ≡ first-store ++ second-store
+  pub closes-full : full geo filled b ≡ true → closesBlock geo filled b ≡ first-store ++ second-store
   unfolding closesBlock
   closes-full t = rw t
 
-  closes-open : full geo filled b ≡ false → closesBlock geo filled b ≡ []
+  pub closes-open : full geo filled b ≡ false → closesBlock geo filled b ≡ []
   unfolding closesBlock
   closes-open t = rw t
 
@@ -354,7 +418,7 @@ module _ (geo : Geometry) (image : Image) (n : ℕ) (ws : List ℕ) (b i : ℕ) 
       exact-then geo image (fillsSlot geo image old n ws b i) (closesBlock geo filled b)
       (fills-exact geo image n ws b i ready target) closing-exact
 
-  final-image : final ≡ run geo filled (closesBlock geo filled b)
+  pub final-image : final ≡ run geo filled (closesBlock geo filled b)
   unfolding placing
   final-image = run-append geo image (fillsSlot geo image old n ws b i) (closesBlock geo filled b)
 
@@ -372,22 +436,7 @@ module _ (geo : Geometry) (image : Image) (n : ℕ) (ws : List ℕ) (b i : ℕ) 
       go false t = ap (λ (ss : List Step). lastAsked ss q (word filled q)) (closes-open t) ∙ last-nothing q (word filled q)
 
   final-words : Words final
-  final-words =
-      record {
-        long = placing-exact .long;
-        map =
-            closing-elsewhere (not-bound b (low-in-block geo within (map-in (slot-in-map (target .slot-of)))) (omega arith))
-            ∙ filled-words .map;
-        entry-word = closing-elsewhere (not-bound b (entry-in-block geo within (target .slot-of)) (omega arith)) ∙ filled-words .entry-word;
-        content = λ j l.
-            closing-elsewhere
-            (not-bound b (content-word-inside geo within (target .slot-of) l) (omega (arith, content-word-after geo within i j)))
-            ∙ filled-words .content j l;
-        old-entry = λ {c} e.
-            closing-elsewhere (not-bound c (entry-in-block geo within (old-live e .slot-of)) (omega arith))
-            ∙ filled-words .old-entry e;
-        elsewhere = λ e p. closing-elsewhere p ∙ filled-words .elsewhere e p;
-      }
+  final-words = bounds-apart final (placing-exact .long) (λ q. closing-elsewhere)
 
   pub placing-placed : Placed geo image final n ws b i
   placing-placed = placed final final-words
@@ -398,20 +447,11 @@ module _ (geo : Geometry) (image : Image) (n : ℕ) (ws : List ℕ) (b i : ℕ) 
   pub filled-placed : Placed geo image filled n ws b i
   filled-placed = placed filled filled-words
 
-  own-final : (c j : ℕ) → j < d geo → ownSlot geo final c j ≡ ownSlot geo filled c j
-  unfolding ownSlot entry freeMap
-  own-final c j l =
-      ap₂ (λ (w : ℕ). slotOf (geo .logical) (isSet w (j % 32)))
-      (closing-elsewhere (not-bound c (low-in-block geo within (map-in (slot-in-map l))) (omega arith)))
-      (closing-elsewhere (not-bound c (entry-in-block geo within l) (omega arith)))
-
   slot-final : (j : ℕ) → j < d geo → slot geo final b j ≡ slot geo filled b j
-  slot-final j l =
-      each-own (current final final-words) (target .block) l ∙ own-final b j l ∙ sym (each-own (current filled filled-words) (target .block) l)
+  slot-final = slot-apart final (placing-exact .long) (λ q. closing-elsewhere)
 
   full-final : full geo final b ≡ full geo filled b
-  unfolding full
-  full-final = ap not (any-ext (d geo) (λ j l. ap isFree (slot-final j l)))
+  full-final = full-apart final (placing-exact .long) (λ q. closing-elsewhere)
 
   live-in-final : (m : ℕ) → liveIn geo final b m ≡ liveIn geo filled b m
   live-in-final m = any-ext (d geo) (λ j l. ap (isLiveFor m) (slot-final j l))
@@ -423,15 +463,6 @@ module _ (geo : Geometry) (image : Image) (n : ℕ) (ws : List ℕ) (b i : ℕ) 
   greatest-final : greatestLive geo final b ≡ greatest-now
   unfolding greatestLive
   greatest-final = best-ext (geo .logical) (λ m l. live-in-final m) (λ m r l h. refl)
-
-  low-other : (c v : ℕ) → v < 3 → c ≢ b → word final (place geo c v) ≡ word image (place geo c v)
-  low-other c v l n' =
-      final-words .elsewhere (low-away c v (omega arith) (λ p e. n' p))
-      (λ w p h. apart geo (low-in-block geo within (omega arith)) (low-in-block geo within (omega arith)) (λ q e. n' q))
-
-  bounds-other : (c : ℕ) → c ≢ b → (leastMapped geo final c ≡ leastMapped geo image c) × (greatestMapped geo final c ≡ greatestMapped geo image c)
-  unfolding leastMapped greatestMapped
-  bounds-other c n' = (low-other c leastWord (omega arith) n', low-other c greatestWord (omega arith) n')
 
   bounds-open : full geo final b ≡ false → (leastMapped geo final b ≡ ones) × (greatestMapped geo final b ≡ ones)
   unfolding leastMapped greatestMapped
@@ -462,7 +493,7 @@ module _ (geo : Geometry) (image : Image) (n : ℕ) (ws : List ℕ) (b i : ℕ) 
       )
 
   pub placing-bounds : Bounds geo image final b
-  placing-bounds = record { elsewhere = bounds-other; open-block = bounds-open; full-block = bounds-full }
+  placing-bounds = record { elsewhere = bounds-other final (final-words .around); open-block = bounds-open; full-block = bounds-full }
 
   -- the words that a placing programs (FORMAT.md, Costs), by the image that it leaves
   pub placing-cost : wordsIn (placing geo image n ws b i) ≡ 131 + 2 * one-if (isAt (find geo image n)) + 2 * one-if (full geo final b)
@@ -470,7 +501,7 @@ module _ (geo : Geometry) (image : Image) (n : ℕ) (ws : List ℕ) (b i : ℕ) 
 
   -- the image after is one to place in again
   pub placing-shaped : Shaped geo final
-  placing-shaped = shaped-after final final-words
+  placing-shaped = around-shaped final (final-words .around)
 
   pub placing-words32 : Words32 final
   placing-words32 = run-words geo image (placing geo image n ws b i) (placing-erasures geo image n ws b i) (ready .words)

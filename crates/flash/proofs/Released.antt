@@ -4,41 +4,33 @@ use mathlib.Core.Logic.{_≢_}
 use mathlib.Core.Bool.{true, not}
 use mathlib.Core.List.{List}
 use mathlib.Core.Option.{none}
-use Prim.Native.Nat.{ℕ, _+_, _*_, _%_, _<_}
+use Prim.Native.Nat.{ℕ, _<_}
 use native.Mathlib.Omega.{arith}
 use lib.ListN.{getD}
 use Rattle.ranges.specs.Range.{one-if, sumBelow}
 use Rattle.ranges.proofs.Tests.{any-ext, all-ext}
 use Rattle.ranges.proofs.Sums.{sum-ext}
-use Rattle.bits.specs.Word.{isSet, cleared}
-use Rattle.bits.proofs.Bit.{clear-bit}
-use Rattle.bits.proofs.Clearing.{cleared-here}
-use Rattle.bits.proofs.Programming.{clearing-leaves}
 use Rattle.geometry.specs.declared.Geometry.{Geometry}
-use Rattle.geometry.specs.Geometry.{Limits, d, k, blockLength}
-use Rattle.geometry.specs.Places.{place, eraseWord, leastWord, greatestWord, mapWord, entryWord, contentWord}
-use Rattle.geometry.proofs.Laws.{low-in-block, entry-in-block, map-word-inside, map-covers, entry-word-inside, content-word-inside, content-word-after}
+use Rattle.geometry.specs.Geometry.{Limits, d}
+use Rattle.geometry.proofs.Laws.{map-covers}
 use Rattle.image.specs.declared.Slot.the-variants.{Live, Dead}
 use Rattle.image.specs.declared.Found.the-variants.{At, Nothing}
-use Rattle.image.specs.Words.{Image, Shaped, word, eraseCount, leastMapped, greatestMapped, freeMap, mapBit, entry, contents}
-use Rattle.image.specs.Slots.{validBit, slotOf, ownSlot, slot, isFree, isLive, isFaulty, find, mapOf}
+use Rattle.image.specs.Words.{Image, eraseCount}
+use Rattle.image.specs.Slots.{ownSlot, slot, isFree, isLive, isFaulty, find, mapOf}
 use Rattle.image.specs.Blocks.{blank, full, freeSlots}
 use Rattle.image.specs.WellFormed.{R6, NoneSuperseded}
-use Rattle.image.proofs.Entries.{invalid-dead}
 use Rattle.image.proofs.Own.{none-superseded, each-own}
-use Rattle.image.proofs.Reading.{entry-inside}
 use Rattle.image.proofs.Facts.{Sound}
 use Rattle.image.proofs.Finding.{LiveAt, found-live, none-found, map-nothing, find-same, map-same}
-use Rattle.image.proofs.Places.{apart, contents-at, contents-are, contents-long}
 use Rattle.tables.specs.Tables.{rightTable}
 use Rattle.tables.proofs.Laws.{right-noted}
 use Rattle.flash.specs.declared.Step.{Step}
 use Rattle.flash.specs.Steps.{run, wordsIn, erasuresIn, leavesAsked}
-use Rattle.flash.specs.Placing.{programsEntry, releasing}
+use Rattle.flash.specs.Placing.{releasing}
 use Rattle.flash.specs.Tables.{tableReleased}
-use Rattle.flash.proofs.Stores.{Exact, last-here, last-other, exact-one, run-words}
 use Rattle.flash.proofs.Counts.{releasing-words, releasing-erasures}
 use Rattle.flash.proofs.Filling.{Ready}
+use Rattle.flash.proofs.Invalidated.{invalidation, invalidated, Invalidated, invalidate, own-dead, own-other}
 use Rattle.flash.proofs.Changed.{not-live, at-slot, dead-not-free, same-number}
 
 -- what the steps of a release of n leave
@@ -60,70 +52,28 @@ module _ (geo : Geometry) (image : Image) (n b i : ℕ) (start : Ready geo image
   at : LiveAt geo image n b i
   at = found-live geo image n b i found
 
-  abbrev here-place : ℕ
-  here-place = place geo b (entryWord geo i)
-
   abbrev steps : List Step
-  steps = programsEntry geo (At b i) (cleared (entry geo image b i) validBit)
+  steps = invalidation geo image b i
 
   abbrev after : Image
-  after = run geo image steps
+  after = invalidated geo image b i
 
-  exact : Exact geo image steps
-  unfolding entry
-  exact =
-      exact-one geo image here-place (cleared (entry geo image b i) validBit)
-      (entry-inside geo image (start .shaped) (at .block) (at .slot-of))
-      (clearing-leaves (entry geo image b i) validBit (start .words .small here-place))
-
-  -- ---- each reading
-
-  elsewhere : (c j : ℕ) → j < blockLength geo → (c ≡ b → j ≡ entryWord geo i → ⊥) → word after (place geo c j) ≡ word image (place geo c j)
-  elsewhere c j l n' =
-      exact .words (place geo c j)
-      ∙ last-other (cleared (entry geo image b i) validBit) (word image (place geo c j))
-      (apart geo l (entry-in-block geo within (at .slot-of)) n')
-
-  low-word : (c j : ℕ) → j < 3 + k geo → word after (place geo c j) ≡ word image (place geo c j)
-  low-word c j l = elsewhere c j (low-in-block geo within l) (λ p e. omega arith)
-
-  shaped-after : Shaped geo after
-  shaped-after = record { limits = within; long = exact .long ∙ start .shaped .long }
-
-  counts : (c : ℕ) → eraseCount geo after c ≡ eraseCount geo image c
-  unfolding eraseCount
-  counts c = low-word c eraseWord (omega arith)
-
-  bounds : (c : ℕ) → (leastMapped geo after c ≡ leastMapped geo image c) × (greatestMapped geo after c ≡ greatestMapped geo image c)
-  unfolding leastMapped greatestMapped
-  bounds c = (low-word c leastWord (omega arith), low-word c greatestWord (omega arith))
-
-  map-same-bit : (c j : ℕ) → j < 32 * k geo → mapBit geo after c j ≡ mapBit geo image c j
-  unfolding freeMap
-  map-same-bit c j l = ap (λ (w : ℕ). isSet w (j % 32)) (low-word c (mapWord j) (map-word-inside geo within {i = j} l))
+  -- each reading
+  made : Invalidated geo image b i
+  made = invalidate geo image b i (start .shaped) (start .words) (at .block) (at .slot-of)
 
   -- by their own entries and map bits: this one is not valid any more, all others are as they were
-  own-dead : ownSlot geo after b i ≡ Dead
-  unfolding ownSlot entry
-  own-dead =
-      ap (slotOf (geo .logical) (mapBit geo after b i))
-      (exact .words here-place ∙ last-here here-place (cleared (entry geo image b i) validBit) (word image here-place))
-      ∙ invalid-dead (geo .logical) (mapBit geo after b i) (cleared (entry geo image b i) validBit)
-      (clear-bit _ validBit (cleared-here (entry geo image b i) validBit))
+  own-gone : ownSlot geo after b i ≡ Dead
+  own-gone = own-dead geo image b i within made
 
-  own-other : (c j : ℕ) → c < geo .blocks → j < d geo → (c ≡ b → j ≡ i → ⊥) → ownSlot geo after c j ≡ slot geo image c j
-  unfolding ownSlot entry
-  own-other c j l h n' =
-      ap₂ (slotOf (geo .logical))
-      (map-same-bit c j (omega (arith, map-covers geo within)))
-      (elsewhere c (entryWord geo j) (entry-in-block geo within h) (λ p e. n' p (omega arith)))
-      ∙ sym (each-own (start .sound .current) l h)
+  own-kept : (c j : ℕ) → c < geo .blocks → j < d geo → (c ≡ b → j ≡ i → ⊥) → ownSlot geo after c j ≡ slot geo image c j
+  own-kept c j l h n' = own-other geo image b i within made c j h n' ∙ sym (each-own (start .sound .current) l h)
 
   own-was : (m c j : ℕ) → c < geo .blocks → j < d geo → ownSlot geo after c j ≡ Live m → slot geo image c j ≡ Live m
   own-was m c j l h e =
       at-slot c j b i
-      (λ x y. absurd (not-live (ap isLive (ap₂ (ownSlot geo after) x y ∙ own-dead)) e))
-      (λ o. sym (own-other c j l h o) ∙ e)
+      (λ x y. absurd (not-live (ap isLive (ap₂ (ownSlot geo after) x y ∙ own-gone)) e))
+      (λ o. sym (own-kept c j l h o) ∙ e)
 
   -- so no slot is superseded
   current : NoneSuperseded geo after
@@ -132,18 +82,10 @@ module _ (geo : Geometry) (image : Image) (n b i : ℕ) (start : Ready geo image
       (λ m c c' j j' l l' h h' e e'. start .sound .once m c c' j j' l l' h h' (own-was m c j l h e) (own-was m c' j' l' h' e'))
 
   dead : slot geo after b i ≡ Dead
-  dead = each-own current (at .block) (at .slot-of) ∙ own-dead
+  dead = each-own current (at .block) (at .slot-of) ∙ own-gone
 
   slot-other : (c j : ℕ) → c < geo .blocks → j < d geo → (c ≡ b → j ≡ i → ⊥) → slot geo after c j ≡ slot geo image c j
-  slot-other c j l h n' = each-own current l h ∙ own-other c j l h n'
-
-  contents-same : (c j : ℕ) → c < geo .blocks → j < d geo → contents geo after c j ≡ contents geo image c j
-  contents-same c j l h =
-      contents-are geo after c j (contents geo image c j) shaped-after l h (contents-long geo image (start .shaped) l h)
-      (λ m q.
-      elsewhere c (contentWord geo j m) (content-word-inside geo within h q)
-      (λ p e. omega (arith, entry-word-inside geo within (at .slot-of), content-word-after geo within j m))
-      ∙ sym (contents-at geo image c j m q))
+  slot-other c j l h n' = each-own current l h ∙ own-kept c j l h n'
 
   -- ---- any slot is the released one, or as it was
 
@@ -172,25 +114,25 @@ module _ (geo : Geometry) (image : Image) (n b i : ℕ) (start : Ready geo image
   sound-after =
       let s = start .sound in
       record {
-        worn = λ c l. rw (counts c) (s .worn c l);
+        worn = λ c l. rw (made .counts c) (s .worn c l);
         map = λ c j l h.
-            map-same-bit c j (omega (arith, map-covers geo within)) ∙ s .map c j l h ∙ sym (free-same c j l h);
-        rest = λ c j l h m. map-same-bit c j m ∙ s .rest c j l h m;
+            made .maps c j (omega (arith, map-covers geo within)) ∙ s .map c j l h ∙ sym (free-same c j l h);
+        rest = λ c j l h m. made .maps c j m ∙ s .rest c j l h m;
         clean = λ c j l h e m q.
-            ap (λ (x : List ℕ). getD x m 0) (contents-same c j l h)
+            ap (λ (x : List ℕ). getD x m 0) (made .contents-kept c j l h)
             ∙ s .clean c j l h (at-slot c j b i (λ x y. absurd (dead-not-free (released-at x y) e)) (λ o. sym (slot-other c j l h o) ∙ e)) m q;
         proper = λ c j l h.
             at-slot c j b i (λ x y. ap isFaulty (released-at x y)) (λ o. ap isFaulty (slot-other c j l h o) ∙ s .proper c j l h);
         once = λ m c c' j j' l l' h h' e e'. s .once m c c' j j' l l' h h' (live-was m c j l h e) (live-was m c' j' l' h' e');
         unbounded = λ c l f.
             let were = s .unbounded c l (sym (full-same c l) ∙ f) in
-            (bounds c .0 ∙ were .0, bounds c .1 ∙ were .1);
+            (made .bounds c .0 ∙ were .0, made .bounds c .1 ∙ were .1);
         bounded = λ c j m l h f e.
             let were = s .bounded c j m l h (sym (full-same c l) ∙ f) (live-was m c j l h e) in
-            (rw (bounds c .0) (were .0), rw (bounds c .1) (were .1));
+            (rw (made .bounds c .0) (were .0), rw (made .bounds c .1) (were .1));
         closed = λ c l f.
             let were = s .closed c l (sym (full-same c l) ∙ f) in
-            (λ e. were .0 (sym (bounds c .0) ∙ e), λ e. were .1 (sym (bounds c .1) ∙ e));
+            (λ e. were .0 (sym (made .bounds c .0) ∙ e), λ e. were .1 (sym (made .bounds c .1) ∙ e));
         current = current;
       }
 
@@ -204,7 +146,7 @@ module _ (geo : Geometry) (image : Image) (n b i : ℕ) (start : Ready geo image
 
   kept : (m : ℕ) → m ≢ n → find geo after m ≡ find geo image m
   kept m x =
-      find-same geo image after m sound-after
+      find-same geo image after m (sound-after .once)
       (λ c j l h e. at-slot c j b i (λ p q. absurd (x (same-number e (was-at p q)))) (λ o. slot-other c j l h o ∙ e))
       (λ c j l h e. live-was m c j l h e)
 
@@ -217,20 +159,20 @@ module _ (geo : Geometry) (image : Image) (n b i : ℕ) (start : Ready geo image
   releasing-released =
       rw steps-are
       (record {
-        asked = exact .asked;
+        asked = made .asked;
         words = sym (ap wordsIn steps-are) ∙ releasing-words geo image n ∙ rw found;
         erasures = sym (ap erasuresIn steps-are) ∙ releasing-erasures geo image n;
         ready =
             record {
-              shaped = shaped-after;
-              words = run-words geo image steps (sym (ap erasuresIn steps-are) ∙ releasing-erasures geo image n) (start .words);
+              shaped = made .shaped;
+              words = made .words;
               sound = sound-after;
             };
         still-blank = any-ext (geo .blocks) (λ c l. blank-same c l);
         here = map-nothing geo after n gone;
-        other = λ m x. map-same geo image after m (kept m x) (λ c j l h e. contents-same c j l h);
+        other = λ m x. map-same geo image after m (kept m x) (λ c j l h e. made .contents-kept c j l h);
         free = sum-ext (geo .blocks) (λ c l. sum-ext (d geo) (λ j h. ap one-if (free-same c j l h)));
-        worn = sum-ext (geo .blocks) (λ c l. counts c);
+        worn = sum-ext (geo .blocks) (λ c l. made .counts c);
       })
 
   -- so a right table stays right when n is noted as live nowhere

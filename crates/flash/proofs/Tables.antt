@@ -18,13 +18,13 @@ use Rattle.image.specs.declared.Found.{Found}
 use Rattle.image.specs.declared.Found.the-variants.{At}
 use Rattle.image.specs.Words.{Image, eraseCount}
 use Rattle.image.specs.Slots.{slot, isLiveFor, liveIn, find}
-use Rattle.image.specs.Blocks.{leastWornBlank, victim}
+use Rattle.image.specs.Blocks.{lowestFree, leastWornBlank, victim}
 use Rattle.image.specs.WellFormed.{ceiling, R6}
 use Rattle.image.proofs.Facts.{live-for, live-is-for}
 use Rattle.tables.specs.Tables.{Table, placeWord, rightTable, slotNoted}
 use Rattle.tables.proofs.Laws.{right-long, right-at}
 use Rattle.flash.specs.Steps.{run}
-use Rattle.flash.specs.Writing.{nextSlot, mustReclaim, copying, reclaiming, writing}
+use Rattle.flash.specs.Writing.{nextSlot, mustReclaim, atTurn, reclaiming, writing}
 use Rattle.flash.specs.Tables.{tableCopied, tableReclaimed, tableFilled, tableReclaimedFirst, tableWritten, tableReleased}
 use Rattle.flash.proofs.Filling.{Ready}
 use Rattle.flash.proofs.Written.{Sector, victim-reclaimable, victim-at-turn, writing-right}
@@ -32,11 +32,11 @@ use Rattle.flash.proofs.Written.{Sector, victim-reclaimable, victim-at-
 module _ (geo : Geometry) (image : Image) where
   -- slot i of block v when the copying into block t comes to it
   abbrev at-turn : ℕ → ℕ → ℕ → Slot
-  at-turn v t i = slot geo (run geo image (copying geo image v t i .steps)) v i
+  at-turn v t i = slot geo (atTurn geo image v t i) v i
 
   -- the slot of block t that a live one is copied to at that turn
   abbrev taken-at : ℕ → ℕ → ℕ → Found
-  taken-at v t i = At t (copying geo image v t i .taken)
+  taken-at v t i = At t (lowestFree geo (atTurn geo image v t i) t)
 
   -- what holds of a table holds after a slot is noted, if it does so with the word of a live slot set
   noted-keeps :
@@ -157,7 +157,7 @@ module _ (geo : Geometry) (image : Image) where
       go : (x : Bool) → mustReclaim geo image ≡ x → OneWord n n
       go true must =
           let v = victim geo image in
-          let w = placeWord geo (nextSlot geo (run geo image (reclaiming geo image v))) in (
+          let w = placeWord geo (nextSlot geo (run geo image (reclaiming geo image v (leastWornBlank geo image)))) in (
             w,
             λ table long.
                 let moved = tableReclaimed geo image v table in

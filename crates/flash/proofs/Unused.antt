@@ -1,4 +1,5 @@
--- The words that a block leaves unused are never programmed: by no placing in a slot, by no release and by no erasing. Assumes nothing.
+-- The words that a block leaves unused are never programmed: by no placing in a slot, by no release, by no erasing, and by no step that programs an entry
+-- or one of the first three words of a block. Assumes nothing.
 use mathlib.Core.Path.{_≡_, refl}
 use mathlib.Core.Bool.{Bool, true, false, _||_}
 use mathlib.Core.List.{List, [], _∷_, _++_}
@@ -7,7 +8,7 @@ use native.Mathlib.Omega.{arith}
 use lib.Dec.{eqb}
 use lib.ListN.{getD}
 use borrow.Author.Tests.{ne-eqb}
-use Rattle.ranges.specs.Range.{listBelow}
+use Rattle.ranges.specs.Range.{listBelow, joinBelow}
 use Rattle.bits.specs.Word.{cleared}
 use Rattle.geometry.specs.declared.Geometry.{Geometry}
 use Rattle.geometry.specs.Geometry.{Limits, d, blockLength, sectorWords}
@@ -125,6 +126,18 @@ module _ (geo : Geometry) where
   pub spares-none : SparesUnused geo []
   unfolding programsWord
   spares-none c j u = refl
+
+  -- lists by index, one behind the other
+  pub spares-join : (m : ℕ) (f : ℕ → List Step) → ((k : ℕ) → k < m → SparesUnused geo (f k)) → SparesUnused geo (joinBelow m f)
+  unfolding joinBelow
+  spares-join zero f each = spares-none
+  spares-join (suc m) f each = spares-append (joinBelow m f) (f m) (spares-join m f (λ k l. each k (omega arith))) (each m (omega arith))
+
+  pub low-spares : Limits geo → (b w asked : ℕ) → w < 3 → SparesUnused geo (Program (place geo b w) asked ∷ [])
+  low-spares within b w asked l c j u = low-spared geo within c j u b w asked l
+
+  pub slot-spares : Limits geo → (b i asked : ℕ) → i < d geo → SparesUnused geo (Program (place geo b (entryWord geo i)) asked ∷ [])
+  slot-spares within b i asked l c j u = slot-spared geo within c j u b i asked l
 
   pub placing-spares : Limits geo → (image : Image) (n : ℕ) (ws : List ℕ) (b i : ℕ) → i < d geo → SparesUnused geo (placing geo image n ws b i)
   placing-spares within image n ws b i l c j u = placing-spared geo within c j u image n ws b i l

@@ -2,7 +2,7 @@
 -- Assumes nothing.
 use mathlib.Core.Path.{_≡_, refl, sym, ap, ap₂, _∙_}
 use mathlib.Core.Logic.{_≢_}
-use mathlib.Core.Bool.{Bool, true, false, _&&_, _||_, true≢false}
+use mathlib.Core.Bool.{Bool, true, false, not, _&&_, _||_, and-false, true≢false}
 use mathlib.Core.List.{List, _++_}
 use mathlib.Core.Option.{some}
 use Prim.Native.Nat.{ℕ, _+_, _*_, _<_, _≤_}
@@ -11,14 +11,14 @@ use native.Mathlib.Omega.{arith}
 use lib.ListN.{length}
 use Rattle.ranges.specs.Range.{one-if, sumBelow, countBelow}
 use Rattle.ranges.proofs.Tests.{unless, all-of, not-all, any-of, any-at}
-use Rattle.ranges.proofs.Sums.{sum-ext, sum-update, sum-update-two, one-if-le, count-one, count-positive, count-from}
+use Rattle.ranges.proofs.Sums.{sum-ext, sum-prefix, sum-update, sum-update-two, one-if-le, count-one, count-positive}
 use Rattle.ranges.proofs.Searches.{best-passes, best-some}
 use Rattle.geometry.specs.declared.Geometry.{Geometry}
 use Rattle.geometry.specs.Geometry.{Limits, d, g, sectorWords}
 use Rattle.geometry.proofs.Laws.{d-positive, g-positive, g-at-most-d}
 use Rattle.image.specs.declared.Slot.{Slot}
 use Rattle.image.specs.Words.{Image, Shaped, Words32, eraseCount}
-use Rattle.image.specs.Slots.{slot, isFree, find, mapOf, isAt}
+use Rattle.image.specs.Slots.{slot, isFree, isLive, find, mapOf, isAt}
 use Rattle.image.specs.Blocks.{blank, full, isOpen, freeSlots, liveSlots, deadSlots, lessWorn, leastWornBlank, preferred, victim}
 use Rattle.image.specs.WellFormed.{ceiling, R6, wellFormed}
 use Rattle.image.proofs.Capacity.{block-parts, blank-free, full-free, shut-full, blank-not-full, free-is-a-block, victim-dead}
@@ -28,7 +28,7 @@ use Rattle.flash.specs.declared.Plan.the-variants.{Reclaim}
 use Rattle.flash.specs.declared.Step.{Step}
 use Rattle.flash.specs.Steps.{run, wordsIn, erasuresIn, erasesBlock, leavesAsked}
 use Rattle.flash.specs.Placing.{placing}
-use Rattle.flash.specs.Writing.{EachInTurn, filling, mustReclaim, copying, reclaiming, reclaimingFirst, writing, planned}
+use Rattle.flash.specs.Writing.{EachInTurn, filling, mustReclaim, copying, atTurn, reclaiming, reclaimingFirst, writing, planned}
 use Rattle.flash.specs.Tables.{tableCopied, tableReclaimed, tableFilled, tableReclaimedFirst, tableWritten}
 use Rattle.flash.proofs.Stores.{run-append, asked-append, words-append, erasures-append}
 use Rattle.flash.proofs.Clearing.{erases-append, erases-none}
@@ -37,7 +37,7 @@ use Rattle.flash.proofs.Unused.{SparesUnused, spares-append, placing-sp
 use Rattle.flash.proofs.Filling.{Ready, Target}
 use Rattle.flash.proofs.Placed.{Placed, placing-exact, placing-placed, placing-bounds, placing-cost, placing-shaped, placing-words32}
 use Rattle.flash.proofs.Kept.{free-as-before, placed-sound, placed-right, placed-here, placed-other, placed-free}
-use Rattle.flash.proofs.Moving.{Moved, moved, each-in-turn}
+use Rattle.flash.proofs.Moving.{Received, InOrder, Moved, filledBy, in-order, moved, each-in-turn}
 use Rattle.flash.proofs.Reclaimed.{Reclaimed, reclaimed}
 use Rattle.flash.proofs.Chosen.{Choice, blank-slot, slots-blank, choice, reclaim-says}
 use Rattle.flash.proofs.Planned.{plan-says}
@@ -87,8 +87,8 @@ module _ (geo : Geometry) (image : Image) (n : ℕ) (ws : List ℕ) (start : Rea
   abbrev after : Image
   after = run geo image (placing geo image n ws b i)
 
-  target : Target geo image n ws b i
-  target =
+  pub choice-target : Target geo image n ws b i
+  choice-target =
       record {
         number = sector .number;
         long = sector .long;
@@ -99,14 +99,14 @@ module _ (geo : Geometry) (image : Image) (n : ℕ) (ws : List ℕ) (start : Rea
       }
 
   p : Placed geo image after n ws b i
-  p = placing-placed geo image n ws b i start target
+  p = placing-placed geo image n ws b i start choice-target
 
   ready-after : Ready geo after
   ready-after =
       record {
-        shaped = placing-shaped geo image n ws b i start target;
-        words = placing-words32 geo image n ws b i start target;
-        sound = placed-sound geo image after n ws b i start target p (placing-bounds geo image n ws b i start target);
+        shaped = placing-shaped geo image n ws b i start choice-target;
+        words = placing-words32 geo image n ws b i start choice-target;
+        sound = placed-sound geo image after n ws b i start choice-target p (placing-bounds geo image n ws b i start choice-target);
       }
 
   -- the spare block is still blank
@@ -117,22 +117,22 @@ module _ (geo : Geometry) (image : Image) (n : ℕ) (ws : List ℕ) (start : Rea
       any-of (geo .blocks) (blank geo after) (c .chosen .spare-in)
       (all-of (d geo)
       (λ j l.
-      free-as-before geo image after n ws b i start target p spare j (c .chosen .spare-in) l (λ x y. c .chosen .spare-other x)
+      free-as-before geo image after n ws b i start choice-target p spare j (c .chosen .spare-in) l (λ x y. c .chosen .spare-other x)
       ∙ ap isFree (blank-slot geo image spare (c .chosen .spare-blank) j l)))
 
   placed-wrote : (v : ℕ) → Wrote geo image n ws v (placing geo image n ws b i)
   placed-wrote v =
       let none = placing-erasures geo image n ws b i in
-      let cost = placing-cost geo image n ws b i start target in
+      let cost = placing-cost geo image n ws b i start choice-target in
       let few : wordsIn (placing geo image n ws b i) ≤ 135 =
       omega (arith, cost, one-if-le (isAt (find geo image n)), one-if-le (full geo after b)) in
-      let paid = placed-free geo image after n ws b i start target p in
+      let paid = placed-free geo image after n ws b i start choice-target p in
       record {
-        asked = placing-exact geo image n ws b i start target .asked;
+        asked = placing-exact geo image n ws b i start choice-target .asked;
         ready = ready-after;
         still-blank = blank-after;
-        here = placed-here geo image after n ws b i start target p (placing-bounds geo image n ws b i start target);
-        other = placed-other geo image after n ws b i start target p (placing-bounds geo image n ws b i start target);
+        here = placed-here geo image after n ws b i start choice-target p (placing-bounds geo image n ws b i start choice-target);
+        other = placed-other geo image after n ws b i start choice-target p (placing-bounds geo image n ws b i start choice-target);
         erases = omega (arith, none);
         plain = λ e. few;
         words = omega (arith, few, g-at-most-d geo within);
@@ -153,7 +153,7 @@ module _ (geo : Geometry) (image : Image) (n : ℕ) (ws : List ℕ) (start : Rea
   unfolding filling tableFilled
   filling-right =
       rw (c .chosen .at)
-      (placed-right geo image after n ws b i start target p (placing-bounds geo image n ws b i start target))
+      (placed-right geo image after n ws b i start choice-target p (placing-bounds geo image n ws b i start choice-target))
 
 -- ---- rule 3, with any full block of at least g dead slots whose count is below the ceiling
 
@@ -195,39 +195,47 @@ module _
     pub apart : v ≢ t
     apart e = blank-not-full geo image (start .sound) limits t is-blank (ap (full geo image) (sym e) ∙ victim-is .filled)
 
-    live-few : liveSlots geo image v + g geo ≤ d geo
+    pub live-few : liveSlots geo image v + g geo ≤ d geo
     live-few =
         omega (arith, block-parts geo image (start .sound) v (victim-is .block), full-free geo image (start .sound) v (victim-is .filled), victim-is .dead)
 
     pub spare : liveSlots geo image v < d geo
     spare = omega (arith, live-few, g-positive geo limits)
 
-    abbrev base : Image
-    base = run geo image (reclaiming geo image v)
+    pub has-room : liveSlots geo image v ≤ freeSlots geo image t
+    has-room = omega (arith, spare, blank-free geo image (start .sound) t is-blank)
 
-    r : Reclaimed geo image v t (reclaiming geo image v)
+    abbrev base : Image
+    base = run geo image (reclaiming geo image v (leastWornBlank geo image))
+
+    r : Reclaimed geo image v t (reclaiming geo image v (leastWornBlank geo image))
     unfolding reclaiming
     r =
-        reclaimed geo image v t start (victim-is .block) blank-in apart
-        (blank-slot geo image t is-blank) spare (victim-is .wearable)
+        reclaimed geo image v t start (victim-is .block) blank-in apart has-room (victim-is .wearable)
 
-    pub reclaim-leaves : Reclaimed geo image v t (reclaiming geo image v)
+    pub reclaim-leaves : Reclaimed geo image v t (reclaiming geo image v (leastWornBlank geo image))
     reclaim-leaves = r
 
     pub victim-in-turn : EachInTurn geo image v t
-    victim-in-turn = each-in-turn geo image v t start (victim-is .block) blank-in apart (blank-slot geo image t is-blank) spare
+    victim-in-turn = each-in-turn geo image v t start (victim-is .block) blank-in apart has-room
 
     -- how the image stands when slot m of the victim has its turn
     pub victim-moved :
-        (m : ℕ) →
-        m ≤ d geo →
-        Moved geo image v t start (victim-is .block) blank-in apart (blank-slot geo image t is-blank) spare m
-        (copying geo image v t m) (tableCopied geo image v t (rightTable geo image) m)
-    victim-moved = moved geo image v t start (victim-is .block) blank-in apart (blank-slot geo image t is-blank) spare
+        (m : ℕ) → m ≤ d geo → Moved geo image v t m (copying geo image v t m) (tableCopied geo image v t (rightTable geo image) m)
+    victim-moved = moved geo image v t start (victim-is .block) blank-in apart has-room
+
+    -- the blank block is filled in order, then and at the end
+    in-blank : (now : Image) (m : ℕ) → m ≤ d geo → Received geo image now v t m → InOrder geo image now v t m
+    in-blank now m l h =
+        in-order geo image now v t m l (blank-slot geo image t is-blank)
+        (omega (arith, spare, sum-prefix {m = m} {n = d geo} (λ i. one-if (isLive (slot geo image v i))) l)) h
+
+    pub reclaim-order : InOrder geo image base v t (d geo)
+    reclaim-order = in-blank base (d geo) (omega arith) (r .received)
 
     -- a slot of the victim is as it was at the start when it has its turn
     pub victim-at-turn :
-        (m : ℕ) → m < d geo → slot geo (run geo image (copying geo image v t m .steps)) v m ≡ slot geo image v m
+        (m : ℕ) → m < d geo → slot geo (atTurn geo image v t m) v m ≡ slot geo image v m
     victim-at-turn m l = victim-moved m (omega arith) .later m (omega arith) l
 
     -- a right table stays right when each copied number is noted where it was placed: the erasing moves none
@@ -235,20 +243,26 @@ module _
     unfolding tableReclaimed
     reclaiming-right = r .right
 
+    -- the blank block is not filled by it
+    reclaim-words : wordsIn (reclaiming geo image v (leastWornBlank geo image)) ≡ 133 * liveSlots geo image v + 1
+    reclaim-words =
+        let kept-open : filledBy geo image base t ≡ false = rw (reclaim-order .not-full) (and-false (not (full geo image t))) in
+        omega (arith, r .words, ap one-if kept-open)
+
     -- afterwards no reclaim is needed: the victim is blank, and the other block is open or blank too
     pub victim-blank : blank geo base v ≡ true
     victim-blank = slots-blank geo base v (r .emptied)
 
     pub target-blank : liveSlots geo image v ≡ 0 → blank geo base t ≡ true
-    target-blank e = slots-blank geo base t (λ j l. r .left-free j (omega arith) l)
+    target-blank e = slots-blank geo base t (λ j l. reclaim-order .left-free j (omega arith) l)
 
     pub target-open : 1 ≤ liveSlots geo image v → isOpen geo base t ≡ true
     unfolding blank full
     target-open l =
-        let some-used = not-all (d geo) (λ j. isFree (slot geo base t j)) {i = 0} (d-positive geo limits) (r .used 0 l) in
+        let some-used = not-all (d geo) (λ j. isFree (slot geo base t j)) {i = 0} (d-positive geo limits) (reclaim-order .used 0 l) in
         let some-free =
         any-of (d geo) (λ j. isFree (slot geo base t j)) {i = liveSlots geo image v} spare
-        (ap isFree (r .left-free (liveSlots geo image v) (omega arith) spare)) in
+        (ap isFree (reclaim-order .left-free (liveSlots geo image v) (omega arith) spare)) in
         rw (some-used, some-free)
 
     pub no-more : mustReclaim geo base ≡ false
@@ -272,10 +286,6 @@ module _
     reclaim-blank = any-of (geo .blocks) (blank geo base) (victim-is .block) victim-blank
 
     -- the free slots grow by the dead slots of the victim
-    free-of-target : freeSlots geo base t + liveSlots geo image v ≡ d geo
-    free-of-target =
-        count-from (d geo) (liveSlots geo image v) {f = λ j. isFree (slot geo base t j)} (omega (arith, spare)) (λ j l. r .used j l) (λ j l h. ap isFree (r .left-free j l h))
-
     gained : freeIn geo base ≡ freeIn geo image + deadSlots geo image v
     gained =
         let change =
@@ -284,7 +294,7 @@ module _
         omega (
           arith,
           change,
-          free-of-target,
+          r .received .free-of-target,
           blank-free geo base (r .ready .sound) v victim-blank,
           blank-free geo image (start .sound) t is-blank,
           full-free geo image (start .sound) v (victim-is .filled),
@@ -301,7 +311,7 @@ module _
 
     module _ (n : ℕ) (ws : List ℕ) (sector : Sector geo n ws) where
       abbrev first : List Step
-      first = reclaiming geo image v
+      first = reclaiming geo image v (leastWornBlank geo image)
 
       abbrev second : List Step
       second = filling geo base n ws
@@ -337,7 +347,7 @@ module _
             other = λ m x. rw same-image (w .other m x ∙ r .map m);
             erases = omega (arith, once);
             plain = λ e. absurd (omega (arith, once));
-            words = omega (arith, words-append first second, r .words, w .plain placed, live-few);
+            words = omega (arith, words-append first second, reclaim-words, w .plain placed, live-few);
             worn = rw (same-image, once) (w .worn ∙ omega (arith, worn-by-one, placed));
             free = rw (same-image, once) (omega (arith, gained, rw placed at (w .free)));
             gain = λ e. victim-is .dead;
@@ -416,10 +426,10 @@ module _
     (below : mustReclaim geo image ≡ true → eraseCount geo image (victim geo image) ≡ ceiling → ⊥)
   where
     -- the block that rule 3 reclaims, or the slot that rules 1 and 2 take
-    by-reclaim : mustReclaim geo image ≡ true → Reclaimable geo image (victim geo image)
+    pub by-reclaim : mustReclaim geo image ≡ true → Reclaimable geo image (victim geo image)
     by-reclaim must = victim-reclaimable geo image start must (below must)
 
-    by-choice : mustReclaim geo image ≡ false → Choice geo image
+    pub by-choice : mustReclaim geo image ≡ false → Choice geo image
     unfolding R6
     by-choice no-need =
         let empty = any-at (geo .blocks) (blank geo image) formed in

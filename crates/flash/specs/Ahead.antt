@@ -1,10 +1,11 @@
 -- K4: a placing, and the placings of a reclaim, as they are known before the first step of the call, so that one step of it can be told without
--- carrying out those before it (FORMAT.md, Step by step). That these are the steps of the definitions is proved (proofs/Ahead, Copies and LastPlacing).
-use mathlib.Core.Bool.{Bool, false, cond, _&&_, _||_}
+-- carrying out those before it (FORMAT.md, Step by step). That these are the steps of the definitions is proved (proofs/Ahead, CopiesInto, Copies and
+-- LastPlacing).
+use mathlib.Core.Bool.{Bool, false, not, cond, _&&_, _||_}
 use mathlib.Core.List.{List, [], _∷_, _++_}
-use Prim.Native.Nat.{ℕ, _+_, _-_, _%_, _^_}
+use Prim.Native.Nat.{ℕ, _+_, _-_, _*_, _%_, _^_}
 use lib.Dec.{ltb, eqb}
-use Rattle.ranges.specs.Range.{orAt, countBelow, firstBelow, lastBelow}
+use Rattle.ranges.specs.Range.{one-if, orAt, countBelow, firstBelow, lastBelow}
 use Rattle.bits.specs.Word.{cleared}
 use Rattle.geometry.specs.declared.Geometry.{Geometry}
 use Rattle.geometry.specs.Geometry.{d}
@@ -12,7 +13,7 @@ use Rattle.geometry.specs.Places.{place, mapWord}
 use Rattle.image.specs.declared.Found.{Found}
 use Rattle.image.specs.declared.Found.the-variants.{At, Nothing}
 use Rattle.image.specs.Words.{Image, eraseCount, freeMap, entry}
-use Rattle.image.specs.Slots.{validBit, currentBit, slot, isLive, find, liveIn}
+use Rattle.image.specs.Slots.{validBit, currentBit, slot, isFree, isLive, find, liveIn}
 use Rattle.image.specs.Blocks.{freeSlots, liveSlots}
 use Rattle.flash.specs.declared.LiveBounds.{LiveBounds}
 use Rattle.flash.specs.declared.Placement.{Placement}
@@ -23,6 +24,10 @@ use Rattle.flash.specs.Placing.{entryAt, programsEntry, programsBounds, 
 -- the map word of slot i with it taken, in a block whose slots before i are taken and whose others are free
 abbrev pub takenUpTo : ℕ → ℕ
 takenUpTo i = cleared (2 ^ 32 - 2 ^ (i % 32)) (i % 32)
+
+-- the map word w of slot i with it taken, and every slot of that word before it
+abbrev pub takenWith : ℕ → ℕ → ℕ
+takenWith w i = cleared (w - w % 2 ^ (i % 32)) (i % 32)
 
 module _ (geo : Geometry) where
   -- (g) of a placing that is known beforehand
@@ -70,11 +75,55 @@ module _ (geo : Geometry) where
         bounds = boundsWith image b n;
       }
 
-  -- how many of the first m slots of v are live: the slot of the blank block that slot m goes to in a reclaim of v
+  -- how many of the first m slots of v are live: in a reclaim of v so many are copied before slot m
   abbrev pub liveBefore : Image → ℕ → ℕ → ℕ
   liveBefore image v m = countBelow m (λ i. isLive (slot geo image v i))
 
-  -- in a reclaim of v into t, the copying of slot m of v, which is live for n: t is never full by it
+  -- how many of the first j slots of t are free; and the free slot of t that has r free ones before it, d where there is none
+  abbrev pub freeBefore : Image → ℕ → ℕ → ℕ
+  freeBefore image t j = countBelow j (λ i. isFree (slot geo image t i))
+
+  unfoldable pub nthFree : Image → ℕ → ℕ → ℕ
+  nthFree image t r = firstBelow (d geo) (λ j. isFree (slot geo image t j) && eqb (freeBefore image t j) r)
+
+  -- the slot of t that slot m of v goes to in a reclaim of v into t; of a blank block it is slot `liveBefore image v m`
+  abbrev pub copySlot : Image → ℕ → ℕ → ℕ → ℕ
+  copySlot image v t m = nthFree image t (liveBefore image v m)
+
+  -- n is live in one of two blocks; and the least and the greatest number that are, L where none is
+  abbrev pub liveInEither : Image → ℕ → ℕ → ℕ → Bool
+  liveInEither image t v n = liveIn geo image t n || liveIn geo image v n
+
+  abbrev pub boundsOfBoth : Image → ℕ → ℕ → LiveBounds
+  boundsOfBoth image t v =
+      record {
+        least = firstBelow (geo .logical) (liveInEither image t v);
+        greatest = lastBelow (geo .logical) (liveInEither image t v);
+      }
+
+  -- In a reclaim of v into t, any block with a free slot for each live one of v, the copying of slot m of v, which is live for n. Where t is full by
+  -- it, it is the last copy, so the numbers of v are all in t then.
+  abbrev pub copyInto : Image → ℕ → ℕ → ℕ → ℕ → Placement
+  copyInto image v t m n =
+      record {
+        number = n;
+        block = t;
+        slot = copySlot image v t m;
+        map = takenWith (freeMap geo image t (copySlot image v t m)) (copySlot image v t m);
+        old = At v m;
+        entry = entry geo image v m;
+        closes = eqb (freeSlots geo image t) (liveBefore image v m + 1);
+        bounds = boundsOfBoth image t v;
+      }
+
+  -- t is full by the copies, and so by the last of them; and how many steps the copies have: 133 each, and two more where t is full by them
+  abbrev pub filledByCopies : Image → ℕ → ℕ → Bool
+  filledByCopies image v t = not (eqb (liveSlots geo image v) 0) && eqb (freeSlots geo image t) (liveSlots geo image v)
+
+  abbrev pub copySteps : Image → ℕ → ℕ → ℕ
+  copySteps image v t = 133 * liveSlots geo image v + 2 * one-if (filledByCopies image v t)
+
+  -- the same copying where t is blank, and has more free slots than v has live ones: t is never full by it
   abbrev pub copyPlacement : Image → ℕ → ℕ → ℕ → ℕ → Placement
   copyPlacement image v t m n =
       record {

@@ -6,18 +6,18 @@ use Rattle.geometry.specs.Geometry.{d}
 use Rattle.image.specs.declared.Found.the-variants.{At, Nothing}
 use Rattle.image.specs.Words.{Image}
 use Rattle.image.specs.Slots.{slot}
-use Rattle.image.specs.Blocks.{leastWornBlank, victim}
+use Rattle.image.specs.Blocks.{lowestFree, leastWornBlank, victim}
 use Rattle.tables.specs.Tables.{Table, noted, slotNoted}
 use Rattle.flash.specs.Steps.{run}
-use Rattle.flash.specs.Writing.{nextSlot, mustReclaim, copying, reclaiming}
+use Rattle.flash.specs.Writing.{nextSlot, mustReclaim, atTurn, reclaiming}
 
 module _ (geo : Geometry) where
   -- the copying of a reclaim, for the first m slots of v: the number of each live one is noted where it is placed, in block t
   unfoldable pub tableCopied : Image → ℕ → ℕ → Table → ℕ → Table
   tableCopied image v t table zero = table
   tableCopied image v t table (suc m) =
-      let before = copying geo image v t m in
-      slotNoted geo (tableCopied image v t table m) (slot geo (run geo image (before .steps)) v m) (At t (before .taken))
+      let now = atTurn geo image v t m in
+      slotNoted geo (tableCopied image v t table m) (slot geo now v m) (At t (lowestFree geo now t))
 
   -- the reclaim of block v: the erasing moves no number
   unfoldable pub tableReclaimed : Image → ℕ → Table → Table
@@ -29,7 +29,7 @@ module _ (geo : Geometry) where
 
   -- rule 3, with the victim v, and then rule 1 or 2 on the image that the reclaim leaves
   unfoldable pub tableReclaimedFirst : Image → ℕ → ℕ → Table → Table
-  tableReclaimedFirst image v n table = tableFilled (run geo image (reclaiming geo image v)) n (tableReclaimed image v table)
+  tableReclaimedFirst image v n table = tableFilled (run geo image (reclaiming geo image v (leastWornBlank geo image))) n (tableReclaimed image v table)
 
   -- a write of n
   unfoldable pub tableWritten : Image → ℕ → Table → Table

@@ -23,11 +23,6 @@ use Rattle.flash.specs.declared.Step.the-variants.{Program, Erase}
 use Rattle.flash.specs.Steps.{run}
 use Rattle.flash.specs.Placing.{placing}
 
--- the steps of a reclaim so far, and how many slots of the blank block they took
-pub record Copied : Type 0 where
-  pub steps : List Step
-  pub taken : ℕ
-
 module _ (geo : Geometry) where
   -- rule 1: the first free slot of the first open block
   abbrev pub openSlot : Image → Found
@@ -57,37 +52,33 @@ module _ (geo : Geometry) where
   unfoldable pub mustReclaim : Image → Bool
   mustReclaim image = not (anyOpen image) && eqb (countBelow (geo .blocks) (blank geo image)) 1
 
-  -- slot i of block v, as the image now stands, placed in block t if it is live
-  abbrev pub copiedSlot : Image → ℕ → ℕ → ℕ → Copied → Slot → Copied
-  copiedSlot now v t i before Free = before
-  copiedSlot now v t i before (Live n) =
-      record {
-        steps = before .steps ++ placing geo now n (contents geo now v i) t (before .taken);
-        taken = suc (before .taken);
-      }
-  copiedSlot now v t i before Dead = before
-  copiedSlot now v t i before Faulty = before
-  copiedSlot now v t i before Superseded = before
+  -- slot i of block v, as the image now stands, placed in the lowest free slot of block t if it is live
+  abbrev pub copiedSlot : Image → ℕ → ℕ → ℕ → Slot → List Step
+  copiedSlot now v t i Free = []
+  copiedSlot now v t i (Live n) = placing geo now n (contents geo now v i) t (lowestFree geo now t)
+  copiedSlot now v t i Dead = []
+  copiedSlot now v t i Faulty = []
+  copiedSlot now v t i Superseded = []
 
-  -- the copying of a reclaim, for the first m slots of v: the live ones go to slots 0, 1, .. of t, each in its turn
-  unfoldable pub copying : Image → ℕ → ℕ → ℕ → Copied
-  copying image v t zero = record { steps = []; taken = 0 }
+  -- the copying of a reclaim, for the first m slots of v: the live ones go to the lowest free slots of t, each in its turn; of a blank block these
+  -- are slots 0, 1, ..
+  unfoldable pub copying : Image → ℕ → ℕ → ℕ → List Step
+  copying image v t zero = []
   copying image v t (suc m) =
       let before = copying image v t m in
-      let now = run geo image (before .steps) in
-      copiedSlot now v t m before (slot geo now v m)
+      let now = run geo image before in
+      before ++ copiedSlot now v t m (slot geo now v m)
 
   -- the image when slot m of v has its turn
   abbrev pub atTurn : Image → ℕ → ℕ → ℕ → Image
-  atTurn image v t m = run geo image (copying image v t m .steps)
+  atTurn image v t m = run geo image (copying image v t m)
 
-  -- Each slot of v in its turn: the image is sound then; and where the slot is live, its number is found there, and the slot of t that it goes to is
-  -- free. So for the victim and the blank block of every reclaim of a well-formed image (proofs/Written: victim-in-turn).
+  -- Each slot of v in its turn: the image is sound then; and where the slot is live, its number is found there, and a slot of t is free for it. So
+  -- wherever t has a free slot for each live one of v (proofs/Moving: each-in-turn), as the blank block of every reclaim of a well-formed image has.
   pub record EachInTurn (image : Image) (v t : ℕ) : Type 0 where
     pub sound-then : (m : ℕ) → m < d geo → sound geo (atTurn image v t m) ≡ true
     pub found-there : (m n : ℕ) → m < d geo → slot geo (atTurn image v t m) v m ≡ Live n → find geo (atTurn image v t m) n ≡ At v m
-    pub room-there :
-        (m n : ℕ) → m < d geo → slot geo (atTurn image v t m) v m ≡ Live n → slot geo (atTurn image v t m) t (copying image v t m .taken) ≡ Free
+    pub room-there : (m n : ℕ) → m < d geo → slot geo (atTurn image v t m) v m ≡ Live n → lowestFree geo (atTurn image v t m) t < d geo
 
   -- the end of a reclaim: v is erased, and its word 0 programmed with one more than it was
   abbrev pub erasesVictim : ℕ → ℕ → List Step
@@ -96,14 +87,15 @@ module _ (geo : Geometry) where
   abbrev pub erasing : Image → ℕ → List Step
   erasing image v = erasesVictim v (eraseCount geo image v)
 
-  -- the reclaim of block v into the blank block: there is a single one, so it is the least worn
-  unfoldable pub reclaiming : Image → ℕ → List Step
-  reclaiming image v = copying image v (leastWornBlank geo image) (d geo) .steps ++ erasing image v
+  -- the reclaim of block v into block t
+  unfoldable pub reclaiming : Image → ℕ → ℕ → List Step
+  reclaiming image v t = copying image v t (d geo) ++ erasing image v
 
-  -- rule 3, with the victim v: the reclaim, and then rule 1 or 2 on the image that it leaves
+  -- rule 3, with the victim v: the reclaim into the blank block, which is the least worn as there is a single one, and then rule 1 or 2 on the
+  -- image that it leaves
   unfoldable pub reclaimingFirst : Image → ℕ → ℕ → List ℕ → List Step
   reclaimingFirst image v n ws =
-      let reclaimed = reclaiming image v in
+      let reclaimed = reclaiming image v (leastWornBlank geo image) in
       reclaimed ++ filling (run geo image reclaimed) n ws
 
   -- a write of n with the contents ws

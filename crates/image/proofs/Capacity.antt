@@ -17,7 +17,7 @@ use Rattle.geometry.proofs.Laws.{d-positive, rounded-up-le}
 use Rattle.image.specs.declared.Slot.{Slot}
 use Rattle.image.specs.declared.Slot.the-variants.{Free, Live, Dead, Faulty, Superseded}
 use Rattle.image.specs.Words.{Image}
-use Rattle.image.specs.Slots.{slot, isFree, isLive, isDead, isFaulty, isLiveFor}
+use Rattle.image.specs.Slots.{superseded, slot, isFree, isLive, isDead, isFaulty, isLiveFor}
 use Rattle.image.specs.Blocks.{blank, full, isOpen, freeSlots, liveSlots, deadSlots, lessWorn, preferred, victim}
 use Rattle.image.proofs.Reading.{blank-count, full-count}
 use Rattle.image.proofs.Own.{not-superseded, live-number}
@@ -31,9 +31,14 @@ slot-parts Dead e n = refl
 slot-parts Faulty e n = absurd (true≢false e)
 slot-parts Superseded e n = absurd (n refl)
 
-module _ (geo : Geometry) (image : Image) (s : Sound geo image) where
-  pub block-parts : (b : ℕ) → b < geo .blocks → freeSlots geo image b + liveSlots geo image b + deadSlots geo image b ≡ d geo
-  block-parts b l =
+module _ (geo : Geometry) (image : Image) where
+  -- so each slot of a block that has none of either
+  pub all-parts :
+      (b : ℕ) →
+      ((i : ℕ) → i < d geo → isFaulty (slot geo image b i) ≡ false) →
+      ((i : ℕ) → i < d geo → superseded geo image b i ≡ false) →
+      freeSlots geo image b + liveSlots geo image b + deadSlots geo image b ≡ d geo
+  all-parts b proper current =
       let frees : ℕ → ℕ = λ i. one-if (isFree (slot geo image b i)) in
       let lives : ℕ → ℕ = λ i. one-if (isLive (slot geo image b i)) in
       let deads : ℕ → ℕ = λ i. one-if (isDead (slot geo image b i)) in
@@ -41,9 +46,13 @@ module _ (geo : Geometry) (image : Image) (s : Sound geo image) where
         arith,
         sum-add (d geo) (λ i. frees i + lives i) deads,
         sum-add (d geo) frees lives,
-        sum-ext (d geo) (λ i h. slot-parts (slot geo image b i) (s .proper b i l h) (not-superseded geo image b i (s .current .none b i l h))),
+        sum-ext (d geo) (λ i h. slot-parts (slot geo image b i) (proper i h) (not-superseded geo image b i (current i h))),
         sum-const (d geo) 1,
       )
+
+module _ (geo : Geometry) (image : Image) (s : Sound geo image) where
+  pub block-parts : (b : ℕ) → b < geo .blocks → freeSlots geo image b + liveSlots geo image b + deadSlots geo image b ≡ d geo
+  block-parts b l = all-parts geo image b (λ i h. s .proper b i l h) (λ i h. s .current .none b i l h)
 
   -- the three numbers of slots that a report gives are all the slots that there are
   pub image-parts :

@@ -90,6 +90,25 @@ complete-for l set n h k =
     complete-slot l set (0xC0000000 + n) (complete-is-6 (0xC0000000 + n) (omega arith) ∙ eq-eqb ((0xC0000000 + n) / 2 ^ 29) 6 (omega arith))
     ∙ rw (low, lt-ltb n l h)
 
+-- one in passing, as step (b) leaves it
+pub passing-for : (l : ℕ) (set : Bool) (n : ℕ) → n < l → l ≤ 2 ^ 29 → slotOf l set (0x80000000 + n) ≡ Live n
+passing-for l set n h k =
+    let low : (0x80000000 + n) % 2 ^ 29 ≡ n = omega arith in
+    passing-slot l set (0x80000000 + n) (passing-is-4 (0x80000000 + n) (omega arith) ∙ eq-eqb ((0x80000000 + n) / 2 ^ 29) 4 (omega arith))
+    ∙ rw (low, lt-ltb n l h)
+
+-- an entry that is neither valid and finished nor in passing is dead once its map bit is clear: as steps (a) and (d) leave it
+pub unfinished-dead : (l : ℕ) (e : ℕ) → e < 2 ^ 32 → e / 2 ^ 29 ≡ 7 → slotOf l false e ≡ Dead
+unfinished-dead l e w seven =
+    other-slot l false e
+    (complete-is-6 e w ∙ ne-eqb (e / 2 ^ 29) 6 (λ same. omega arith))
+    (passing-is-4 e w ∙ ne-eqb (e / 2 ^ 29) 4 (λ same. omega arith))
+    ∙ go (isFreeEntry e)
+  where
+    go : (f : Bool) → cond f Dead Dead ≡ Dead
+    go true = refl
+    go false = refl
+
 -- all of them in the order in which the code asks
 pub slot-word :
     (l : ℕ) (set : Bool) (e : ℕ) →
@@ -209,24 +228,14 @@ live-test l set e n w h k = go (eqb (cleared e currentBit) (0x80000000 + n)) ref
     other Faulty p q = refl
     other Superseded p q = refl
 
-    is-live : e % 2 ^ 29 ≡ n → slotOf l set e ≡ Live (e % 2 ^ 29) → isLiveFor n (slotOf l set e) ≡ true
-    is-live low s = rw s (eq-eqb (e % 2 ^ 29) n low)
-
-    complete : e ≡ 0xC0000000 + n → isLiveFor n (slotOf l set e) ≡ true
-    complete q =
-        is-live (omega arith)
-        (complete-slot l set e (complete-is-6 e w ∙ eq-eqb (e / 2 ^ 29) 6 (omega arith)) ∙ rw (lt-ltb (e % 2 ^ 29) l (omega arith)))
-
-    passing : e ≡ 0x80000000 + n → isLiveFor n (slotOf l set e) ≡ true
-    passing q =
-        is-live (omega arith)
-        (passing-slot l set e (passing-is-4 e w ∙ eq-eqb (e / 2 ^ 29) 4 (omega arith)) ∙ rw (lt-ltb (e % 2 ^ 29) l (omega arith)))
+    is-live : (w : ℕ) → e ≡ w → slotOf l set w ≡ Live n → isLiveFor n (slotOf l set e) ≡ true
+    is-live w same s = rw (same, s) (eq-eqb n n refl)
 
     go : (b : Bool) → eqb (cleared e currentBit) (0x80000000 + n) ≡ b → isLiveFor n (slotOf l set e) ≡ b
     go true p =
         let q = eqb-true (cleared e currentBit) (0x80000000 + n) p in
         ⊎-elim
-        (λ c. passing (sym (cleared-clear e currentBit c) ∙ q))
-        (λ c. complete (omega (arith, sym (cleared-set e currentBit c) ∙ q, bit-le e currentBit c)))
+        (λ c. is-live (0x80000000 + n) (sym (cleared-clear e currentBit c) ∙ q) (passing-for l set n h k))
+        (λ c. is-live (0xC0000000 + n) (omega (arith, sym (cleared-set e currentBit c) ∙ q, bit-le e currentBit c)) (complete-for l set n h k))
         (bit-cases e currentBit)
     go false p = other (slotOf l set e) refl (eqb-false (cleared e currentBit) (0x80000000 + n) p)

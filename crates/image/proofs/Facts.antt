@@ -16,9 +16,9 @@ use Rattle.geometry.specs.Geometry.{d, k, sectorWords}
 use Rattle.image.specs.declared.Slot.{Slot}
 use Rattle.image.specs.declared.Slot.the-variants.{Free, Live, Dead, Faulty, Superseded}
 use Rattle.image.specs.Words.{Image, eraseCount, leastMapped, greatestMapped, mapBit, contents}
-use Rattle.image.specs.Slots.{slot, isFree, isFaulty, isLiveWith, isLiveFor}
+use Rattle.image.specs.Slots.{slot, isFree, isLive, isFaulty, isLiveWith, isLiveFor}
 use Rattle.image.specs.Blocks.{full}
-use Rattle.image.specs.WellFormed.{ceiling, allOnes, mapAgrees, restSet, liveBefore, noneTwice, boundsSet, outOfBounds, R1, R2, R3, R4, R5, R6, R7, R8, soundBlock, sound, wellFormed, MapsAgree, NoneSuperseded}
+use Rattle.image.specs.WellFormed.{ceiling, allOnes, mapAgrees, restSet, liveBefore, noneTwice, noneWith, outside, boundsBlank, boundsSet, R1, R2, R3, R4, R5, R6, R7, R8, soundBlock, sound, wellFormed, MapsAgree, NoneSuperseded}
 use Rattle.image.proofs.Own.{Once, free-read}
 use Rattle.image.proofs.Reading.{map-says, map-rest}
 
@@ -30,6 +30,14 @@ live-for n (Live m) e = ap Live (eqb-true m n e)
 live-for n Dead e = absurd (false≢true e)
 live-for n Faulty e = absurd (false≢true e)
 live-for n Superseded e = absurd (false≢true e)
+
+-- a live slot is live for some number
+pub live-is : (s : Slot) → isLive s ≡ true → (n : ℕ) × (s ≡ Live n)
+live-is Free e = absurd (false≢true e)
+live-is (Live n) e = (n, refl)
+live-is Dead e = absurd (false≢true e)
+live-is Faulty e = absurd (false≢true e)
+live-is Superseded e = absurd (false≢true e)
 
 pub live-is-for : {n : ℕ} {s : Slot} → s ≡ Live n → isLiveFor n s ≡ true
 live-is-for {n} e = rw e (eq-eqb n n refl)
@@ -143,6 +151,68 @@ asked true b h e = h
 asked false b h e = absurd (false≢true e)
 
 module _ (geo : Geometry) (image : Image) where
+  -- ---- the rules of one block as facts, and back
+
+  module _ (b : ℕ) where
+    -- R2
+    pub map-agrees :
+        ((i : ℕ) → i < d geo → mapBit geo image b i ≡ isFree (slot geo image b i)) →
+        ((i : ℕ) → d geo ≤ i → i < 32 * k geo → mapBit geo image b i ≡ true) →
+        R2 geo image b ≡ true
+    unfolding R2
+    map-agrees says rest =
+        let agrees : mapAgrees geo image b ≡ true = all-of (d geo) (λ i h. only-over _ _ (says i h ∙ free-read geo image b i)) in
+        let set : restSet geo image b ≡ true = all-of (32 * k geo - d geo) (λ j h. rest (d geo + j) (omega arith) (omega arith)) in
+        rw (agrees, set)
+
+    -- R3
+    abbrev pub Clean : Type 0
+    Clean = (i : ℕ) → i < d geo → slot geo image b i ≡ Free → (j : ℕ) → j < sectorWords → getD (contents geo image b i) j 0 ≡ ones
+
+    pub clean-of : R3 geo image b ≡ true → Clean
+    unfolding R3
+    clean-of t i h e j q = eqb-true _ _ (all-at sectorWords _ (asked _ _ (all-at (d geo) _ t i h) (ap isFree e)) j q)
+
+    pub clean-tests : Clean → R3 geo image b ≡ true
+    unfolding R3
+    clean-tests clean = all-of (d geo) (λ i h. go i h (isFree (slot geo image b i)) refl)
+      where
+        go : (i : ℕ) → i < d geo → (f : Bool) → isFree (slot geo image b i) ≡ f → (f implies allOnes (contents geo image b i)) ≡ true
+        go i h true e = all-of sectorWords (λ j q. eq-eqb _ _ (clean i h (free-is _ e) j q))
+        go i h false e = refl
+
+    -- R4
+    pub proper-of : R4 geo image b ≡ true → (i : ℕ) → i < d geo → isFaulty (slot geo image b i) ≡ false
+    unfolding R4
+    proper-of t i h = not-true _ (all-at (d geo) _ t i h)
+
+    pub proper-tests : ((i : ℕ) → i < d geo → isFaulty (slot geo image b i) ≡ false) → R4 geo image b ≡ true
+    unfolding R4
+    proper-tests proper = all-of (d geo) (λ i h. ap not (proper i h))
+
+    -- R7, where the block is not full: words 1 and 2 are not programmed
+    pub unbounded-of : boundsBlank geo image b ≡ true → (leastMapped geo image b ≡ ones) × (greatestMapped geo image b ≡ ones)
+    unbounded-of t = let both = both-pass _ _ t in (eqb-true _ _ (both .0), eqb-true _ _ (both .1))
+
+    pub unbounded-tests : (leastMapped geo image b ≡ ones) × (greatestMapped geo image b ≡ ones) → boundsBlank geo image b ≡ true
+    unbounded-tests both = rw (eq-eqb _ _ (both .0), eq-eqb _ _ (both .1))
+
+    -- R7, where it is: its live numbers lie between two words
+    module _ (least greatest : ℕ) where
+      abbrev pub Between : Type 0
+      Between = (i n : ℕ) → i < d geo → slot geo image b i ≡ Live n → (least ≤ n) × (n ≤ greatest)
+
+      pub between-of : noneWith geo (slot geo image) (outside least greatest) b ≡ true → Between
+      between-of t i n h e =
+          let inside = both-pass _ _ (not-false _ (live-fails (outside least greatest) (all-at (d geo) _ t i h) e)) in
+          (leb-true _ _ (inside .0), leb-true _ _ (inside .1))
+
+      pub between-tests : Between → noneWith geo (slot geo image) (outside least greatest) b ≡ true
+      between-tests between =
+          all-of (d geo)
+          (λ i h. each-live (slot geo image b i)
+          (λ n e. let inside = between i n h e in rw (le-leb _ _ (inside .0), le-leb _ _ (inside .1))))
+
   record Rules (b : ℕ) : Type 0 where
     r1 : R1 geo image b ≡ true
     r2 : R2 geo image b ≡ true
@@ -171,23 +241,17 @@ module _ (geo : Geometry) (image : Image) where
   -- ---- from the rules to the facts
 
   pub sound-facts : sound geo image ≡ true → Sound geo image
-  unfolding R1 R3 R4 R5 R7 R8
+  unfolding R1 R5 R7 R8
   sound-facts t =
       record {
         worn = λ b l. leb-true _ _ (rules t b l .r1);
         map = λ b i l h. map-says geo image b (rules t b l .r2) i h;
         rest = λ b i l h m. map-rest geo image b (rules t b l .r2) i h m;
-        clean = λ b i l h e j q.
-            eqb-true _ _ (all-at sectorWords _ (asked _ _ (all-at (d geo) _ (rules t b l .r3) i h) (ap isFree e)) j q);
-        proper = λ b i l h. not-true _ (all-at (d geo) _ (rules t b l .r4) i h);
+        clean = λ b i l h e j q. clean-of b (rules t b l .r3) i h e j q;
+        proper = λ b i l h. proper-of b (rules t b l .r4) i h;
         once = once-of geo (slot geo image) (λ b l. rules t b l .r5);
-        unbounded = λ b l f.
-            let both = both-pass _ _ (rw f at (rules t b l .r7)) in
-            (eqb-true _ _ (both .0), eqb-true _ _ (both .1));
-        bounded = λ b i n l h f e.
-            let bounds = both-pass (boundsSet geo image b) _ (rw f at (rules t b l .r7)) .1 in
-            let inside = both-pass _ _ (not-false _ (live-fails (outOfBounds geo image b) (all-at (d geo) _ bounds i h) e)) in
-            (leb-true _ _ (inside .0), leb-true _ _ (inside .1));
+        unbounded = λ b l f. unbounded-of b (rw f at (rules t b l .r7));
+        bounded = λ b i n l h f e. between-of b _ _ (both-pass (boundsSet geo image b) _ (rw f at (rules t b l .r7)) .1) i n h e;
         closed = λ b l f.
             let set = neither-passes _ _ (not-true _ (both-pass (boundsSet geo image b) _ (rw f at (rules t b l .r7)) .0)) in
             (eqb-false _ _ (set .0), eqb-false _ _ (set .1));
@@ -195,18 +259,6 @@ module _ (geo : Geometry) (image : Image) where
       }
 
   -- ---- and back
-
-  -- R2 of one block
-  pub map-agrees :
-      (b : ℕ) →
-      ((i : ℕ) → i < d geo → mapBit geo image b i ≡ isFree (slot geo image b i)) →
-      ((i : ℕ) → d geo ≤ i → i < 32 * k geo → mapBit geo image b i ≡ true) →
-      R2 geo image b ≡ true
-  unfolding R2
-  map-agrees b says rest =
-      let agrees : mapAgrees geo image b ≡ true = all-of (d geo) (λ i h. only-over _ _ (says i h ∙ free-read geo image b i)) in
-      let set : restSet geo image b ≡ true = all-of (32 * k geo - d geo) (λ j h. rest (d geo + j) (omega arith) (omega arith)) in
-      rw (agrees, set)
 
   module _ (s : Sound geo image) (b : ℕ) (l : b < geo .blocks) where
     kept-1 : R1 geo image b ≡ true
@@ -216,18 +268,6 @@ module _ (geo : Geometry) (image : Image) where
     kept-2 : R2 geo image b ≡ true
     kept-2 = map-agrees b (λ i h. s .map b i l h) (λ i h m. s .rest b i l h m)
 
-    kept-3 : R3 geo image b ≡ true
-    unfolding R3
-    kept-3 = all-of (d geo) (λ i h. go i h (isFree (slot geo image b i)) refl)
-      where
-        go : (i : ℕ) → i < d geo → (f : Bool) → isFree (slot geo image b i) ≡ f → (f implies allOnes (contents geo image b i)) ≡ true
-        go i h true e = all-of sectorWords (λ j q. eq-eqb _ _ (s .clean b i l h (free-is _ e) j q))
-        go i h false e = refl
-
-    kept-4 : R4 geo image b ≡ true
-    unfolding R4
-    kept-4 = all-of (d geo) (λ i h. ap not (s .proper b i l h))
-
     kept-5 : R5 geo image b ≡ true
     unfolding R5
     kept-5 = once-tests geo (slot geo image) (s .once) b l
@@ -236,13 +276,8 @@ module _ (geo : Geometry) (image : Image) where
     unfolding R7
     kept-7 true f =
         let set = s .closed b l f in
-        rw (f, ne-eqb _ _ (set .0), ne-eqb _ _ (set .1))
-        (all-of (d geo)
-        (λ i h. each-live (slot geo image b i)
-        (λ n e. let in-between = s .bounded b i n l h f e in rw (le-leb _ _ (in-between .0), le-leb _ _ (in-between .1)))))
-    kept-7 false f =
-        let both = s .unbounded b l f in
-        rw (f, eq-eqb _ _ (both .0), eq-eqb _ _ (both .1))
+        rw (f, ne-eqb _ _ (set .0), ne-eqb _ _ (set .1)) (between-tests b _ _ (λ i n h e. s .bounded b i n l h f e))
+    kept-7 false f = rw f (unbounded-tests b (s .unbounded b l f))
 
     kept-8 : R8 geo image b ≡ true
     unfolding R8
@@ -255,8 +290,8 @@ module _ (geo : Geometry) (image : Image) where
       record {
         r1 = kept-1 s b l;
         r2 = kept-2 s b l;
-        r3 = kept-3 s b l;
-        r4 = kept-4 s b l;
+        r3 = clean-tests b (λ i h. s .clean b i l h);
+        r4 = proper-tests b (λ i h. s .proper b i l h);
         r5 = kept-5 s b l;
         r7 = kept-7 s b l (full geo image b) refl;
         r8 = kept-8 s b l;

@@ -14,7 +14,8 @@ use Rattle.image.specs.declared.Found.{Found}
 use Rattle.image.specs.declared.Found.the-variants.{At, Nothing}
 use Rattle.image.specs.Words.{Image, contents}
 use Rattle.image.specs.Slots.{slot, isLiveFor, liveIn, find, mapOf}
-use Rattle.image.proofs.Facts.{Sound, live-for, live-is-for}
+use Rattle.image.proofs.Own.{Once}
+use Rattle.image.proofs.Facts.{live-for, live-is-for}
 
 -- what `At b i` says
 pub record LiveAt (geo : Geometry) (image : Image) (n b i : ℕ) : Type 0 where
@@ -78,13 +79,13 @@ module _ (geo : Geometry) (image : Image) where
       go Nothing e = e
 
   -- and, by R5, a slot that is live for n is the one that is found
-  pub live-found : Sound geo image → (n b i : ℕ) → LiveAt geo image n b i → find geo image n ≡ At b i
-  live-found s n b i at = go (find geo image n) refl
+  pub live-found : Once geo (slot geo image) → (n b i : ℕ) → LiveAt geo image n b i → find geo image n ≡ At b i
+  live-found once n b i at = go (find geo image n) refl
     where
       go : (f : Found) → find geo image n ≡ f → find geo image n ≡ At b i
       go (At c j) e =
           let other = found-live n c j e in
-          let same = s .once n c b j i (other .block) (at .block) (other .slot-of) (at .slot-of) (other .live) (at .live) in
+          let same = once n c b j i (other .block) (at .block) (other .slot-of) (at .slot-of) (other .live) (at .live) in
           e ∙ ap₂ At (same .0) (same .1)
       go Nothing e = absurd (found-nothing n e b i (at .block) (at .slot-of) (at .live))
 
@@ -98,16 +99,16 @@ module _ (geo : Geometry) (image : Image) where
 -- two images whose slots are live for n at the same places find n alike: by R5 the second has no other slot that is live for n
 pub find-same :
     (geo : Geometry) (image image' : Image) (n : ℕ) →
-    Sound geo image' →
+    Once geo (slot geo image') →
     ((b i : ℕ) → b < geo .blocks → i < d geo → slot geo image b i ≡ Live n → slot geo image' b i ≡ Live n) →
     ((b i : ℕ) → b < geo .blocks → i < d geo → slot geo image' b i ≡ Live n → slot geo image b i ≡ Live n) →
     find geo image' n ≡ find geo image n
-find-same geo image image' n s' there back = go (find geo image n) refl
+find-same geo image image' n once there back = go (find geo image n) refl
   where
     go : (f : Found) → find geo image n ≡ f → find geo image' n ≡ find geo image n
     go (At b i) e =
         let at = found-live geo image n b i e in
-        live-found geo image' s' n b i
+        live-found geo image' once n b i
         (record { block = at .block; slot-of = at .slot-of; live = there b i (at .block) (at .slot-of) (at .live) })
         ∙ sym e
     go Nothing e = none-found geo image' n (λ b i l h q. found-nothing geo image n e b i l h (back b i l h q)) ∙ sym e

@@ -1,8 +1,11 @@
 pub mod Entries
 pub mod Own
 pub mod Reading
+pub mod Alike
 pub mod Facts
 pub mod Finding
 pub mod Places
 pub mod Capacity
 pub mod Faults
+pub mod Mending
+pub mod Emptiest

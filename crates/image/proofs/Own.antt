@@ -30,12 +30,12 @@ Once geo kind =
 
 module _ (geo : Geometry) (image : Image) where
   -- what a superseded slot's entry is: in passing, with a number that there is, for which some entry is complete
-  record Passed (b i : ℕ) : Type 0 where
-    passing : isPassing (entry geo image b i) ≡ true
-    known : ltb (entry geo image b i % 2 ^ 29) (geo .logical) ≡ true
-    complete : hasComplete geo image (entry geo image b i % 2 ^ 29) ≡ true
+  pub record Passed (b i : ℕ) : Type 0 where
+    pub passing : isPassing (entry geo image b i) ≡ true
+    pub known : ltb (entry geo image b i % 2 ^ 29) (geo .logical) ≡ true
+    pub complete : hasComplete geo image (entry geo image b i % 2 ^ 29) ≡ true
 
-  passed : (b i : ℕ) → superseded geo image b i ≡ true → Passed b i
+  pub passed : (b i : ℕ) → superseded geo image b i ≡ true → Passed b i
   unfolding superseded
   passed b i t =
       let two = both-pass _ (hasComplete geo image (entry geo image b i % 2 ^ 29)) t in
@@ -95,24 +95,46 @@ module _ (geo : Geometry) (image : Image) where
   unfolding ownSlot
   live-number b i {n} e = live-parts (geo .logical) (mapBit geo image b i) (entry geo image b i) n (live-own b i e) .2
 
-  -- where no number is live twice by the slots' own entries, none is superseded: the complete entry would be live as well, in another slot
-  pub none-superseded : Once geo (ownSlot geo image) → NoneSuperseded geo image
+  -- A superseded slot, which is not complete, and another whose entry is complete for its number: by their own entries both are live for it.
+  pub record Replaced (b i : ℕ) : Type 0 where
+    pub number : ℕ
+    pub live : ownSlot geo image b i ≡ Live number
+    pub outdated : isComplete (entry geo image b i) ≡ false
+    pub by-block : ℕ
+    pub by-slot : ℕ
+    pub block-of : by-block < geo .blocks
+    pub slot-of : by-slot < d geo
+    pub by-live : ownSlot geo image by-block by-slot ≡ Live number
+    pub complete : isComplete (entry geo image by-block by-slot) ≡ true
+
+  pub replaced : (b i : ℕ) → superseded geo image b i ≡ true → Replaced b i
   unfolding hasComplete ownSlot
-  none-superseded once = record { none = λ b i l h. unless (superseded geo image b i) (λ t. clash b i l h t (passed b i t)) }
+  replaced b i t =
+      let p = passed b i t in
+      let (c, m, there) = any-at (geo .blocks) _ (p .complete) in
+      let (j, k, found) = any-at (d geo) _ there in
+      let both = both-pass (isComplete (entry geo image c j)) _ found in
+      let number : entry geo image c j % 2 ^ 29 ≡ entry geo image b i % 2 ^ 29 = eqb-true _ _ (both .1) in
+      record {
+        number = entry geo image b i % 2 ^ 29;
+        live = passed-live b i t;
+        outdated = passing-not-complete (entry geo image b i) (p .passing);
+        by-block = c;
+        by-slot = j;
+        block-of = m;
+        slot-of = k;
+        by-live = complete-slot (geo .logical) (mapBit geo image c j) (entry geo image c j) (both .0) ∙ rw (number, p .known);
+        complete = both .0;
+      }
+
+  -- where no number is live twice by the slots' own entries, none is superseded
+  pub none-superseded : Once geo (ownSlot geo image) → NoneSuperseded geo image
+  none-superseded once = record { none = λ b i l h. unless (superseded geo image b i) (λ t. clash b i l h (replaced b i t)) }
     where
-      clash : (b i : ℕ) → b < geo .blocks → i < d geo → superseded geo image b i ≡ true → Passed b i → ⊥
-      clash b i l h t p =
-          let n = entry geo image b i % 2 ^ 29 in
-          let (c, m, there) = any-at (geo .blocks) _ (p .complete) in
-          let (j, k, found) = any-at (d geo) _ there in
-          let both = both-pass (isComplete (entry geo image c j)) _ found in
-          let number : entry geo image c j % 2 ^ 29 ≡ n = eqb-true _ _ (both .1) in
-          let live : ownSlot geo image c j ≡ Live n =
-          complete-slot (geo .logical) (mapBit geo image c j) (entry geo image c j) (both .0) ∙ rw (number, p .known) in
-          let same = once n b c i j l m h k (passed-live b i t) live in
-          true≢false
-          (sym (ap₂ (λ (x y : ℕ). isComplete (entry geo image x y)) (same .0) (same .1) ∙ both .0)
-          ∙ passing-not-complete (entry geo image b i) (p .passing))
+      clash : (b i : ℕ) → b < geo .blocks → i < d geo → Replaced b i → ⊥
+      clash b i l h r =
+          let same = once (r .number) b (r .by-block) i (r .by-slot) l (r .block-of) h (r .slot-of) (r .live) (r .by-live) in
+          true≢false (sym (ap₂ (λ (x y : ℕ). isComplete (entry geo image x y)) (same .0) (same .1) ∙ r .complete) ∙ r .outdated)
 
 -- where none is superseded, each slot is what its own entry and map bit say
 pub each-own : {geo : Geometry} {image : Image} → NoneSuperseded geo image → {b i : ℕ} → b < geo .blocks → i < d geo → slot geo image b i ≡ ownSlot geo image b i

@@ -3,3 +3,4 @@ pub mod Slots
 pub mod Blocks
 pub mod WellFormed
 pub mod Faults
+pub mod Mending

@@ -43,7 +43,7 @@ fn mark_completes(image: &[u32], geo: Geometry, b: usize, marks: &mut [u32])
 }
 
 // Those of all blocks.
-fn mark_all_completes(image: &[u32], geo: Geometry, marks: &mut [u32])
+pub fn mark_all_completes(image: &[u32], geo: Geometry, marks: &mut [u32])
     requires { ⌜ Shaped geo (now image) ⌝ }
     requires { ⌜ Marks geo (completeSlot geo (now image)) 0 0 (now marks) ⌝ }
     ensures { λ _. ⌜ Completes geo (now (image .entry)) (now (marks .exit)) ⌝ }
@@ -55,7 +55,7 @@ fn mark_all_completes(image: &[u32], geo: Geometry, marks: &mut [u32])
 }
 
 // Whether slot i of block b is superseded (K4): its entry is in passing, the upper three bits being 4, and another is complete for its number.
-fn is_superseded(image: &[u32], geo: Geometry, completes: &[u32], b: usize, i: usize) -> bool
+pub fn is_superseded(image: &[u32], geo: Geometry, completes: &[u32], b: usize, i: usize) -> bool
     requires { ⌜ Shaped geo (now image) ⌝ }
     requires { ⌜ Completes geo (now image) (now completes) ⌝ }
     requires { ⌜ b < geo .blocks ⌝ }
@@ -72,7 +72,7 @@ fn is_superseded(image: &[u32], geo: Geometry, completes: &[u32], b: usize, i: u
 }
 
 // What slot i of block b is.
-fn judged(image: &[u32], geo: Geometry, completes: &[u32], b: usize, i: usize) -> Slot
+pub fn judged(image: &[u32], geo: Geometry, completes: &[u32], b: usize, i: usize) -> Slot
     requires { ⌜ Shaped geo (now image) ⌝ }
     requires { ⌜ Completes geo (now image) (now completes) ⌝ }
     requires { ⌜ b < geo .blocks ⌝ }
@@ -86,7 +86,7 @@ fn judged(image: &[u32], geo: Geometry, completes: &[u32], b: usize, i: usize) -
 }
 
 // R5. The marks know the earlier blocks' live numbers and learn this one's.
-fn rule5(image: &[u32], geo: Geometry, completes: &[u32], b: usize, marks: &mut [u32]) -> bool
+pub fn rule5(image: &[u32], geo: Geometry, completes: &[u32], b: usize, marks: &mut [u32]) -> bool
     requires { ⌜ Shaped geo (now image) ⌝ }
     requires { ⌜ Completes geo (now image) (now completes) ⌝ }
     requires { ⌜ b < geo .blocks ⌝ }
@@ -112,7 +112,7 @@ fn rule5(image: &[u32], geo: Geometry, completes: &[u32], b: usize, marks: &mut 
 }
 
 // Whether the live numbers of block b lie between two words.
-fn live_bounded(
+pub fn live_bounded(
     image: &[u32],
     geo: Geometry,
     completes: &[u32],

@@ -1,9 +1,10 @@
 // Placing a sector in a slot, (a) to (g), and releasing one: as many of the steps as are left of those that a call may do (K4). A function
 // that changes the image returns how many are left then; a whole call has more than any needs.
-ghost use mathlib.Core.Bool.{true};
+ghost use mathlib.Core.Bool.{Bool, true};
 ghost use mathlib.Core.Path.{_≡_};
-ghost use Prim.Native.Nat.{_-_, _<_};
+ghost use Prim.Native.Nat.{ℕ, _-_, _<_};
 ghost use lib.ListN.{length};
+ghost use Rattle.ranges.specs.Range.{orAt};
 ghost use Rattle.geometry.specs.Geometry.{d, sectorWords};
 ghost use Rattle.image.specs.declared.Found.the-variants.{At};
 ghost use Rattle.image.specs.declared.Slot.the-variants.{Free};
@@ -14,6 +15,7 @@ ghost use Rattle.tables.specs.Tables.{noted};
 ghost use Rattle.flash.specs.Steps.{run, firstOf};
 ghost use Rattle.flash.specs.Ahead.{boundsWith};
 ghost use Rattle.flash.specs.Placing.{InImage, entryAt, programsEntry, takesSlot, storesContents, liveBounds, closesBlock, placing, invalidates};
+ghost use Rattle.placing.specs.Bounds.{boundsOf};
 use blocks::lowest_free;
 use flash::LiveBounds;
 use flash::steps::program;
@@ -97,49 +99,12 @@ fn store_contents(
     left - stored
 }
 
-// The least and the greatest number live in block b. Whether an entry is live, the map bit does not say.
-fn live_bounds(image: &[u32], geo: Geometry, b: usize) -> LiveBounds
-    requires { ⌜ Shaped geo (now image) ⌝ }
-    requires { ⌜ NoneSuperseded geo (now image) ⌝ }
-    requires { ⌜ b < geo .blocks ⌝ }
-    ensures { λ r. ⌜ r ≡ liveBounds geo (now (image .entry)) b ⌝ }
+// The bounds of some numbers and of one more. With `logical` as the least there are none yet.
+pub fn widened(live: LiveBounds, logical: u32, n: u32) -> LiveBounds
+    requires { ⌜ n < logical ⌝ }
+    ensures { λ r. ⌜ ((f : ℕ → Bool) → live ≡ boundsOf logical f → r ≡ boundsOf logical (orAt f n)) ⌝ }
 {
-    let d = geo.d();
-    let logical = geo.logical;
-    let entries = geo.entries_start(b);
-    let mut least = logical;
-    let mut greatest = logical;
-    for i in 0..d {
-        match slot_of(logical, false, image[entries + i]) {
-            Slot::Live(n) => {
-                if least == logical {
-                    greatest = n;
-                } else if greatest < n {
-                    greatest = n;
-                }
-                if n < least {
-                    least = n;
-                }
-            }
-            Slot::Free => {}
-            Slot::Dead => {}
-            Slot::Faulty => {}
-            Slot::Superseded => {}
-        }
-    }
-    LiveBounds { least, greatest }
-}
-
-// The same with n as one of the numbers.
-pub fn bounds_with(image: &[u32], geo: Geometry, b: usize, n: u32) -> LiveBounds
-    requires { ⌜ Shaped geo (now image) ⌝ }
-    requires { ⌜ NoneSuperseded geo (now image) ⌝ }
-    requires { ⌜ b < geo .blocks ⌝ }
-    requires { ⌜ n < geo .logical ⌝ }
-    ensures { λ r. ⌜ r ≡ boundsWith geo (now (image .entry)) b n ⌝ }
-{
-    let live = live_bounds(image, geo, b);
-    if live.least == geo.logical {
+    if live.least == logical {
         return LiveBounds {
             least: n,
             greatest: n,
@@ -154,6 +119,45 @@ pub fn bounds_with(image: &[u32], geo: Geometry, b: usize, n: u32) -> LiveBounds
         greatest = live.greatest;
     }
     LiveBounds { least, greatest }
+}
+
+// The least and the greatest number live in block b. Whether an entry is live, the map bit does not say.
+pub fn live_bounds(image: &[u32], geo: Geometry, b: usize) -> LiveBounds
+    requires { ⌜ Shaped geo (now image) ⌝ }
+    requires { ⌜ NoneSuperseded geo (now image) ⌝ }
+    requires { ⌜ b < geo .blocks ⌝ }
+    ensures { λ r. ⌜ r ≡ liveBounds geo (now (image .entry)) b ⌝ }
+{
+    let d = geo.d();
+    let logical = geo.logical;
+    let entries = geo.entries_start(b);
+    let mut live = LiveBounds {
+        least: logical,
+        greatest: logical,
+    };
+    for i in 0..d {
+        match slot_of(logical, false, image[entries + i]) {
+            Slot::Live(n) => {
+                live = widened(live, logical, n);
+            }
+            Slot::Free => {}
+            Slot::Dead => {}
+            Slot::Faulty => {}
+            Slot::Superseded => {}
+        }
+    }
+    live
+}
+
+// The same with n as one of the numbers.
+pub fn bounds_with(image: &[u32], geo: Geometry, b: usize, n: u32) -> LiveBounds
+    requires { ⌜ Shaped geo (now image) ⌝ }
+    requires { ⌜ NoneSuperseded geo (now image) ⌝ }
+    requires { ⌜ b < geo .blocks ⌝ }
+    requires { ⌜ n < geo .logical ⌝ }
+    ensures { λ r. ⌜ r ≡ boundsWith geo (now (image .entry)) b n ⌝ }
+{
+    widened(live_bounds(image, geo, b), geo.logical, n)
 }
 
 // (g): words 1 and 2, if the block has no free slot left.

@@ -6,3 +6,4 @@ pub mod Demands
 pub mod Properties
 pub mod Tables
 pub mod Stepwise
+pub mod Cuts

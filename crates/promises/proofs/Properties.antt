@@ -19,18 +19,24 @@ use Rattle.image.proofs.Capacity.{image-parts, live-at-most}
 use Rattle.image.proofs.Own.{each-own}
 use Rattle.image.proofs.Facts.{sound-facts, formed-sound, facts-formed}
 use Rattle.image.proofs.Finding.{live-found, map-at, map-nothing}
+use Rattle.image.proofs.Mending.{mendable-facts}
+use Rattle.flash.specs.declared.Step.{Step}
 use Rattle.flash.specs.Steps.{run, programsWord}
 use Rattle.flash.specs.Placing.{releasing}
 use Rattle.flash.specs.Writing.{writing}
+use Rattle.flash.specs.Repairing.{repairing}
 use Rattle.flash.proofs.Counts.{placing-words}
 use Rattle.flash.proofs.Unused.{spares-none, releasing-spares}
+use Rattle.repairing.proofs.Careful.{repair-careful}
+use Rattle.answers.specs.declared.Answer.{Answer}
 use Rattle.answers.specs.declared.Answer.the-variants.{Accepted}
+use Rattle.answers.specs.Answers.{ifAccepted}
 use Rattle.answers.proofs.Acceptance.{if-accepted, if-refused, accepted?}
-use Rattle.calls.specs.Refusals.{checkAnswer, readAnswer, writeAnswer, releaseAnswer}
-use Rattle.calls.specs.Calls.{fresh, formatted, totalsOf, noTotals, reported, readBuffer, writeSteps, releaseSteps}
+use Rattle.calls.specs.Refusals.{checkAnswer, readAnswer, writeAnswer, releaseAnswer, repairAnswer}
+use Rattle.calls.specs.Calls.{fresh, formatted, totalsOf, noTotals, reported, readBuffer, writeSteps, releaseSteps, repairSteps}
 use Rattle.promises.specs.Runs.{ran, started}
 use Rattle.promises.specs.Properties.{TheOneSlot, EachSlotByItself, FormatMakesAFreshImage, RunsStayWellFormed, ReportAddsUp, OthersReadAsBefore, UnusedWordsAreNotProgrammed, PlacingCosts, WearAndFreeSlots}
-use Rattle.calls.proofs.AcceptedCalls.{check-accepted, format-accepted, write-accepted, write-steps, write-wrote, release-accepted, release-steps, release-blank, release-released}
+use Rattle.calls.proofs.AcceptedCalls.{check-accepted, format-accepted, write-accepted, write-steps, write-wrote, release-accepted, release-steps, release-blank, release-released, repair-accepted}
 use Rattle.promises.proofs.Fresh.{fresh-ready, fresh-blank, fresh-formed, fresh-map, fresh-frees, fresh-worn}
 use Rattle.promises.proofs.Running.{Good, runs}
 use Rattle.calls.proofs.CallLaws.{formed-ready}
@@ -38,7 +44,7 @@ use Rattle.calls.proofs.CallLaws.{formed-ready}
 pub the-one-slot : TheOneSlot
 the-one-slot geo image n b c i j checked l l' h h' e =
     let s = sound-facts geo image (formed-sound geo image (check-accepted geo image checked .1)) in
-    (map-at geo image n b i (live-found geo image s n b i (record { block = l; slot-of = h; live = e })), s .once n b c i j l l' h h' e)
+    (map-at geo image n b i (live-found geo image (s .once) n b i (record { block = l; slot-of = h; live = e })), s .once n b c i j l l' h h' e)
 
 pub each-slot-by-itself : EachSlotByItself
 each-slot-by-itself geo image b i checked l h =
@@ -62,14 +68,15 @@ good-checked geo image good =
 pub runs-stay-well-formed : RunsStayWellFormed
 unfolding formatted
 runs-stay-well-formed geo image calls = (
-  λ accepted.
+  λ accepted whole.
       let within = format-accepted geo image accepted .limits in
-      let good = runs geo calls (started (fresh geo)) (record { ready = fresh-ready geo within; spare = fresh-blank geo within }) .good in
-      rw (if-accepted (fresh geo) image accepted) (good-checked geo (ran geo (started (fresh geo)) calls .image) good),
-  λ checked words.
+      let made = if-accepted (fresh geo) image accepted in
+      let good = runs geo calls (started (fresh geo)) (record { ready = fresh-ready geo within; spare = fresh-blank geo within }) (rw made at whole) .good in
+      rw made (good-checked geo (ran geo (started (fresh geo)) calls .image) good),
+  λ checked words whole.
       let start = check-accepted geo image checked in
       let formed = formed-ready geo image (start .0) words (start .1) in
-      let good = runs geo calls (started image) (record { ready = formed .0; spare = formed .1 }) .good in
+      let good = runs geo calls (started image) (record { ready = formed .0; spare = formed .1 }) whole .good in
       good-checked geo (ran geo (started image) calls .image) good,
 )
 
@@ -137,24 +144,27 @@ others-read-as-before geo image n m buffer handed words given x = (
 )
 
 pub unused-words-are-not-programmed : UnusedWordsAreNotProgrammed
-unfolding writeSteps releaseSteps
+unfolding writeSteps releaseSteps repairSteps
 unused-words-are-not-programmed geo image n b j buffer words given unused = (
-  write-spares (accepted? (writeAnswer geo image n buffer)),
-  release-spares (accepted? (releaseAnswer geo image n)),
+  spared (writeAnswer geo image n buffer) (writing geo image n buffer) (λ accepted. write-wrote geo image n buffer words given accepted .spares b j unused),
+  spared (releaseAnswer geo image n) (releasing geo image n)
+      (λ accepted. releasing-spares geo (release-accepted geo image n accepted .0 .limits) image n b j unused),
+  spared (repairAnswer geo image) (repairing geo image)
+      (λ accepted.
+      let (shaped, mends, room, worn) = repair-accepted geo image accepted in
+      repair-careful geo image shaped words (mendable-facts geo image mends) room worn .spares b j unused),
 )
   where
-    write-spares : Dec (writeAnswer geo image n buffer ≡ Accepted) → programsWord (writeSteps geo image n buffer) (place geo b j) ≡ false
-    write-spares (yes accepted) =
-        rw (write-steps geo image n buffer words given accepted) (write-wrote geo image n buffer words given accepted .spares b j unused)
-    write-spares (no refused) =
-        rw (if-refused (writeAnswer geo image n buffer) (writing geo image n buffer) [] refused) (spares-none geo b j unused)
-
-    release-spares : Dec (releaseAnswer geo image n ≡ Accepted) → programsWord (releaseSteps geo image n) (place geo b j) ≡ false
-    release-spares (yes accepted) =
-        rw (release-steps geo image n words accepted)
-        (releasing-spares geo (release-accepted geo image n accepted .0 .limits) image n b j unused)
-    release-spares (no refused) =
-        rw (if-refused (releaseAnswer geo image n) (releasing geo image n) [] refused) (spares-none geo b j unused)
+    -- so where the call is refused: it has no step
+    spared :
+        (answer : Answer) (steps : List Step) →
+        (answer ≡ Accepted → programsWord steps (place geo b j) ≡ false) →
+        programsWord (ifAccepted answer steps []) (place geo b j) ≡ false
+    spared answer steps if-done = go (accepted? answer)
+      where
+        go : Dec (answer ≡ Accepted) → programsWord (ifAccepted answer steps []) (place geo b j) ≡ false
+        go (yes accepted) = rw (if-accepted steps [] accepted) (if-done accepted)
+        go (no refused) = rw (if-refused answer steps [] refused) (spares-none geo b j unused)
 
 pub placing-costs : PlacingCosts
 placing-costs geo image n ws b i = placing-words geo image n ws b i

@@ -1,17 +1,20 @@
 -- A run: what each call pays in free slots, and so how many erasures a run can make. Assumes nothing.
-use mathlib.Core.Path.{_≡_, refl, ap, _∙_}
-use mathlib.Core.Bool.{true}
+use mathlib.Core.Path.{_≡_, refl, sym, ap, _∙_}
+use mathlib.Core.Bool.{true, false, not, true≢false}
 use mathlib.Core.List.{List, [], _∷_}
 use Prim.Native.Nat.{ℕ, zero, suc, _+_, _-_, _*_, _≤_}
 use native.Mathlib.Omega.{arith}
+use lib.Seq.{take-nil}
+use Rattle.ranges.proofs.Tests.{both-pass}
 use Rattle.geometry.specs.declared.Geometry.{Geometry}
 use Rattle.geometry.specs.Geometry.{d, g}
 use Rattle.image.specs.Words.{Image}
 use Rattle.image.specs.WellFormed.{R6}
 use Rattle.flash.specs.declared.Step.{Step}
-use Rattle.flash.specs.Steps.{run, erasuresIn}
+use Rattle.flash.specs.Steps.{run, erasuresIn, firstOf}
 use Rattle.flash.specs.Placing.{releasing}
 use Rattle.flash.specs.Writing.{writing}
+use Rattle.flash.specs.Repairing.{repairing}
 use Rattle.flash.proofs.Filling.{Ready}
 use Rattle.flash.proofs.Stores.{run-none}
 use Rattle.flash.proofs.Written.{freeIn, wornIn, Wrote}
@@ -20,13 +23,15 @@ use Rattle.answers.specs.declared.Answer.{Answer}
 use Rattle.answers.specs.declared.Answer.the-variants.{Accepted}
 use Rattle.answers.specs.Answers.{ifAccepted}
 use Rattle.answers.proofs.Acceptance.{if-accepted, if-refused, accepted?}
-use Rattle.calls.specs.Refusals.{writeAnswer, releaseAnswer}
-use Rattle.calls.specs.Calls.{writeStepsAfter, writeSteps, releaseStepsAfter, releaseSteps}
+use Rattle.calls.specs.Refusals.{writeAnswer, releaseAnswer, repairAnswer}
+use Rattle.calls.specs.Calls.{writeStepsAfter, writeSteps, releaseStepsAfter, releaseSteps, repairSteps}
 use Rattle.tabled.specs.Refusals.{writeAnswerWith, releaseAnswerWith}
 use Rattle.tabled.specs.Calls.{writeStepsWith, releaseStepsWith}
-use Rattle.promises.specs.Runs.{Call, Check, Report, Read, Write, Release, WriteStep, ReleaseStep, Build, ReadWith, WriteWith, ReleaseWith, State, called, ran}
+use Rattle.promises.specs.Runs.{Call, Check, Report, Read, Write, Release, WriteStep, ReleaseStep, Repair, RepairStep, WriteFirst, ReleaseFirst, RepairFirst, Build, ReadWith, WriteWith, ReleaseWith, State, called, ran, isCut, uncut}
 use Rattle.calls.proofs.AcceptedCalls.{write-by-length, write-wrote, release-released}
+use Rattle.repairing.proofs.Nothing.{nothing-repaired}
 use Rattle.promises.proofs.Accepted.{write-too, release-too}
+use Rattle.promises.proofs.Given.{if-either}
 
 -- an image that is well formed, of the right shape and of 32-bit words
 pub record Good (geo : Geometry) (image : Image) : Type 0 where
@@ -192,31 +197,77 @@ module _ (geo : Geometry) where
         more-writes = omega (arith, st .writes, r .more-writes);
       }
 
+  -- a call of no steps, or one for the first steps that is refused, leaves the state as it was
+  still : (s : State) (steps : List Step) → Good geo (s .image) → steps ≡ [] →
+      Step-of s (record { image = run geo (s .image) steps; writes = s .writes; erasures = s .erasures + erasuresIn steps })
+  unfolding erasuresIn
+  still s steps good none =
+      idle s (record { image = run geo (s .image) steps; writes = s .writes; erasures = s .erasures + erasuresIn steps }) good
+      (ap (run geo (s .image)) none ∙ run-none geo (s .image))
+      refl
+      (ap (λ (ss : List Step). s .erasures + erasuresIn ss) none ∙ omega arith)
+
+  -- a repair has nothing to do
+  nothing-to-do : (image : Image) → Good geo image → repairSteps geo image ≡ []
+  unfolding repairSteps
+  nothing-to-do image good =
+      if-either (λ (ss : List Step). ss) (repairAnswer geo image) (nothing-repaired geo image (good .ready .sound) (good .spare)) refl
+
+  -- a call that is no cut is refused, and has no steps
+  refused-first : (answer : Answer) (j : ℕ) (steps : List Step) → not (ifAccepted answer true false) ≡ true → firstOf j (ifAccepted answer steps []) ≡ []
+  refused-first answer j steps uncut-call = go (accepted? answer)
+    where
+      go : Dec (answer ≡ Accepted) → firstOf j (ifAccepted answer steps []) ≡ []
+      go (yes a) = absurd (true≢false (sym uncut-call ∙ ap not (if-accepted true false a)))
+      go (no a) = ap (firstOf j) (if-refused answer steps [] a) ∙ take-nil j
+
   pub runs :
       (calls : List Call) (s : State) →
       Good geo (s .image) →
+      uncut geo s calls ≡ true →
       Ran s (ran geo s calls)
-  unfolding ran called writeSteps releaseSteps writeStepsWith releaseStepsWith
-  runs [] s good =
+  unfolding ran called uncut isCut writeSteps releaseSteps repairSteps writeStepsWith releaseStepsWith
+  runs [] s good whole =
       record { good = good; bound = λ k e. absurd (omega arith); worn = refl; more-erasures = omega arith; more-writes = omega arith }
-  runs (Check ∷ cs) s good = runs cs s good
-  runs (Report ∷ cs) s good = runs cs s good
-  runs (Read n buffer ∷ cs) s good = runs cs s good
-  runs (Write n buffer ∷ cs) s good =
+  runs (Check ∷ cs) s good whole = runs cs s good whole
+  runs (Report ∷ cs) s good whole = runs cs s good whole
+  runs (Read n buffer ∷ cs) s good whole = runs cs s good whole
+  runs (Write n buffer ∷ cs) s good whole =
+      let call : Call = Write n buffer in
       let st = write-step s n buffer (writeAnswer geo (s .image) n buffer) (λ a. a) good in
-      joined s (called geo s (Write n buffer)) (ran geo (called geo s (Write n buffer)) cs) st (runs cs (called geo s (Write n buffer)) (st .good))
-  runs (Release n ∷ cs) s good =
+      joined s (called geo s call) (ran geo (called geo s call) cs) st (runs cs (called geo s call) (st .good) whole)
+  runs (Release n ∷ cs) s good whole =
+      let call : Call = Release n in
       let st = release-step s n (releaseAnswer geo (s .image) n) (λ a. a) good in
-      joined s (called geo s (Release n)) (ran geo (called geo s (Release n)) cs) st (runs cs (called geo s (Release n)) (st .good))
-  runs (WriteStep n buffer i ∷ cs) s good = runs cs s good
-  runs (ReleaseStep n i ∷ cs) s good = runs cs s good
-  runs (Build table ∷ cs) s good = runs cs s good
-  runs (ReadWith n buffer table ∷ cs) s good = runs cs s good
-  runs (WriteWith n buffer table ∷ cs) s good =
+      joined s (called geo s call) (ran geo (called geo s call) cs) st (runs cs (called geo s call) (st .good) whole)
+  runs (WriteStep n buffer i ∷ cs) s good whole = runs cs s good whole
+  runs (ReleaseStep n i ∷ cs) s good whole = runs cs s good whole
+  runs (Repair ∷ cs) s good whole =
+      let st = still s (repairSteps geo (s .image)) good (nothing-to-do (s .image) good) in
+      joined s (called geo s Repair) (ran geo (called geo s Repair) cs) st (runs cs (called geo s Repair) (st .good) whole)
+  runs (RepairStep i ∷ cs) s good whole = runs cs s good whole
+  runs (WriteFirst n buffer j ∷ cs) s good whole =
+      let call : Call = WriteFirst n buffer j in
+      let parts = both-pass (not (isCut geo (s .image) call)) (uncut geo (called geo s call) cs) whole in
+      let st = still s (firstOf j (writeSteps geo (s .image) n buffer)) good (refused-first (writeAnswer geo (s .image) n buffer) j (writing geo (s .image) n buffer) (parts .0)) in
+      joined s (called geo s call) (ran geo (called geo s call) cs) st (runs cs (called geo s call) (st .good) (parts .1))
+  runs (ReleaseFirst n j ∷ cs) s good whole =
+      let call : Call = ReleaseFirst n j in
+      let parts = both-pass (not (isCut geo (s .image) call)) (uncut geo (called geo s call) cs) whole in
+      let st = still s (firstOf j (releaseSteps geo (s .image) n)) good (refused-first (releaseAnswer geo (s .image) n) j (releasing geo (s .image) n) (parts .0)) in
+      joined s (called geo s call) (ran geo (called geo s call) cs) st (runs cs (called geo s call) (st .good) (parts .1))
+  runs (RepairFirst j ∷ cs) s good whole =
+      let call : Call = RepairFirst j in
+      let parts = both-pass (not (isCut geo (s .image) call)) (uncut geo (called geo s call) cs) whole in
+      let st = still s (firstOf j (repairSteps geo (s .image))) good (refused-first (repairAnswer geo (s .image)) j (repairing geo (s .image)) (parts .0)) in
+      joined s (called geo s call) (ran geo (called geo s call) cs) st (runs cs (called geo s call) (st .good) (parts .1))
+  runs (Build table ∷ cs) s good whole = runs cs s good whole
+  runs (ReadWith n buffer table ∷ cs) s good whole = runs cs s good whole
+  runs (WriteWith n buffer table ∷ cs) s good whole =
       let call : Call = WriteWith n buffer table in
       let st = write-step s n buffer (writeAnswerWith geo (s .image) n buffer table) (write-too geo (s .image) n buffer table) good in
-      joined s (called geo s call) (ran geo (called geo s call) cs) st (runs cs (called geo s call) (st .good))
-  runs (ReleaseWith n table ∷ cs) s good =
+      joined s (called geo s call) (ran geo (called geo s call) cs) st (runs cs (called geo s call) (st .good) whole)
+  runs (ReleaseWith n table ∷ cs) s good whole =
       let call : Call = ReleaseWith n table in
       let st = release-step s n (releaseAnswerWith geo (s .image) n table) (release-too geo (s .image) n table) good in
-      joined s (called geo s call) (ran geo (called geo s call) cs) st (runs cs (called geo s call) (st .good))
+      joined s (called geo s call) (ran geo (called geo s call) cs) st (runs cs (called geo s call) (st .good) whole)

@@ -14,12 +14,13 @@ use Rattle.flash.specs.declared.NextStep.the-variants.{Done}
 use Rattle.flash.specs.Steps.{applied, run, wordsIn, erasuresIn, stepAt, firstOf}
 use Rattle.flash.specs.Placing.{releasing}
 use Rattle.flash.specs.Writing.{writing}
+use Rattle.flash.specs.Repairing.{repairing}
 use Rattle.flash.proofs.Stores.{run-none}
 use Rattle.flash.proofs.Parts.{steps-counted, step-past}
 use Rattle.answers.specs.declared.Answer.{Answer}
 use Rattle.answers.proofs.Acceptance.{if-refused}
-use Rattle.calls.specs.Refusals.{writeAnswer, releaseAnswer}
-use Rattle.calls.specs.Calls.{outcome, writeSteps, releaseSteps}
+use Rattle.calls.specs.Refusals.{writeAnswer, releaseAnswer, repairAnswer}
+use Rattle.calls.specs.Calls.{outcome, writeSteps, releaseSteps, repairSteps}
 use Rattle.promises.specs.Stepwise.{Part, carriedOut, untouched, StepsMake, StepsMakeTheCall, StepsRefuseAlike}
 
 -- a loop that is told the steps of a list, from the one that it is at, carries out as many of them as it has turns
@@ -82,17 +83,21 @@ pub steps-make-the-call : StepsMakeTheCall
 steps-make-the-call geo image n buffer = (
   steps-make geo image (writeAnswer geo image n buffer) (writeSteps geo image n buffer),
   steps-make geo image (releaseAnswer geo image n) (releaseSteps geo image n),
+  steps-make geo image (repairAnswer geo image) (repairSteps geo image),
 )
 
 pub steps-refuse-alike : StepsRefuseAlike
-unfolding writeSteps releaseSteps stepAt
+unfolding writeSteps releaseSteps repairSteps stepAt
 steps-refuse-alike geo image n buffer i = (
+  refl,
+  refl,
   refl,
   refl,
   refl,
   refl,
   λ refused. nothing (writeAnswer geo image n buffer) (if-refused (writeAnswer geo image n buffer) (writing geo image n buffer) [] refused),
   λ refused. nothing (releaseAnswer geo image n) (if-refused (releaseAnswer geo image n) (releasing geo image n) [] refused),
+  λ refused. nothing (repairAnswer geo image) (if-refused (repairAnswer geo image) (repairing geo image) [] refused),
 )
   where
     nothing :

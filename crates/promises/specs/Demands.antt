@@ -15,17 +15,19 @@ use Rattle.geometry.specs.Geometry.{d, g, blockLength}
 use Rattle.image.specs.Words.{Image, Words32, word, eraseCount}
 use Rattle.image.specs.Slots.{mapOf}
 use Rattle.image.specs.Blocks.{freeSlots, victim}
-use Rattle.image.specs.WellFormed.{wellFormed}
+use Rattle.image.specs.WellFormed.{R6, wellFormed}
+use Rattle.image.specs.Mending.{emptiest}
 use Rattle.image.specs.Faults.{firstFault}
 use Rattle.flash.specs.Steps.{programmedAt, run, erasesBlock, leavesAsked}
 use Rattle.flash.specs.Placing.{releasing}
 use Rattle.flash.specs.Writing.{mustReclaim, writing}
+use Rattle.flash.specs.Repairing.{repairing}
 use Rattle.answers.specs.declared.Answer.{Answer}
 use Rattle.answers.specs.declared.Answer.the-variants.{Accepted, Unmapped}
 use Rattle.answers.specs.Answers.{numberOf, blockOf, ruleOf}
-use Rattle.calls.specs.Refusals.{Row, formatRows, checkRows, readRows, writeRows, releaseRows, formatAnswer, checkAnswer, readAnswer, writeAnswer, releaseAnswer}
-use Rattle.calls.specs.Calls.{formatted, noTotals, reported, readBuffer, writeSteps, writeOutcome, written, releaseOutcome, released, outcome}
-use Rattle.promises.specs.Runs.{Call, State, ran, started}
+use Rattle.calls.specs.Refusals.{Row, formatRows, checkRows, readRows, writeRows, releaseRows, repairRows, formatAnswer, checkAnswer, readAnswer, writeAnswer, releaseAnswer, repairAnswer}
+use Rattle.calls.specs.Calls.{formatted, noTotals, reported, readBuffer, writeSteps, writeOutcome, written, releaseOutcome, released, repairSteps, repairOutcome, repaired, outcome}
+use Rattle.promises.specs.Runs.{Call, State, ran, uncut, started}
 
 -- ---- Demand 1. Whatever is handed in, nothing traps: no public function of the crates `shellwaltz` and `tabled` has a `requires`, and a proved function does
 -- nothing undefined and returns.
@@ -58,6 +60,7 @@ Refusals =
     × GivenExactly (readAnswer geo image n buffer) (readRows geo image n buffer)
     × GivenExactly (writeAnswer geo image n buffer) (writeRows geo image n buffer)
     × GivenExactly (releaseAnswer geo image n) (releaseRows geo image n)
+    × GivenExactly (repairAnswer geo image) (repairRows geo image)
 
 -- K1: refusal 4 names the first failing pair (image/specs/Faults), whichever call gives it; any other answer names block 0 and rule 0.
 abbrev pub NamesThePair : Geometry → Image → Answer → Type 0
@@ -74,6 +77,7 @@ EveryAnswerNamesThePair =
     × NamesThePair geo image (readAnswer geo image n buffer)
     × NamesThePair geo image (writeAnswer geo image n buffer)
     × NamesThePair geo image (releaseAnswer geo image n)
+    × NamesThePair geo image (repairAnswer geo image)
 
 -- A refused call changes no word of image or buffer, and reports zeros.
 abbrev pub RefusedChangesNothing : Type 0
@@ -86,6 +90,7 @@ RefusedChangesNothing =
     (written geo image n buffer ≡ image) × (writeOutcome geo image n buffer ≡ outcome (writeAnswer geo image n buffer) []))
     × (releaseAnswer geo image n ≢ Accepted →
     (released geo image n ≡ image) × (releaseOutcome geo image n ≡ outcome (releaseAnswer geo image n) []))
+    × (repairAnswer geo image ≢ Accepted → (repaired geo image ≡ image) × (repairOutcome geo image ≡ outcome (repairAnswer geo image) []))
 
 -- ---- Demand 2.
 
@@ -125,8 +130,8 @@ abbrev pub AStepOnlyClears : Type 0
 AStepOnlyClears =
     (image : Image) (q asked p j : ℕ) → isSet (word (programmedAt image q asked) p) j ≡ true → isSet (word image p) j ≡ true
 
--- Of a call: after a release every word has only bits that it had, and so has after a write every word but those of a block that it erased. It
--- erases none but the victim, and that only where it has to reclaim.
+-- Of a call: after a release every word has only bits that it had, and so has after a write or a repair (K4) every word but those of a block that it
+-- erased. A write erases none but the victim, and that only where it has to reclaim.
 abbrev pub ProgrammingOnlyClears : Type 0
 ProgrammingOnlyClears =
     (geo : Geometry) (image : Image) (n : ℕ) (buffer : List ℕ) (p j : ℕ) →
@@ -134,6 +139,9 @@ ProgrammingOnlyClears =
     (isSet (word (released geo image n) p) j ≡ true → isSet (word image p) j ≡ true)
     × (erasesBlock (writeSteps geo image n buffer) (p / blockLength geo) ≡ false →
     isSet (word (written geo image n buffer) p) j ≡ true →
+    isSet (word image p) j ≡ true)
+    × (erasesBlock (repairSteps geo image) (p / blockLength geo) ≡ false →
+    isSet (word (repaired geo image) p) j ≡ true →
     isSet (word image p) j ≡ true)
 
 abbrev pub OnlyTheVictimIsErased : Type 0
@@ -144,6 +152,14 @@ OnlyTheVictimIsErased =
     erasesBlock (writeSteps geo image n buffer) b ≡ true →
     (mustReclaim geo image ≡ true) × (b ≡ victim geo image) × (writeOutcome geo image n buffer .erasures ≡ 1)
 
+-- K4: a repair erases none but the emptiest of the full blocks, and that only where no block is blank
+abbrev pub OnlyTheEmptiestIsErased : Type 0
+OnlyTheEmptiestIsErased =
+    (geo : Geometry) (image : Image) (b : ℕ) →
+    Words32 image →
+    erasesBlock (repairSteps geo image) b ≡ true →
+    (R6 geo image ≡ false) × (b ≡ emptiest geo image) × (repairOutcome geo image .erasures ≡ 1)
+
 -- and each step of an accepted call leaves exactly the word that it asks for
 abbrev pub StepsLeaveTheAskedWord : Type 0
 StepsLeaveTheAskedWord =
@@ -152,6 +168,7 @@ StepsLeaveTheAskedWord =
     Words32 buffer →
     (writeAnswer geo image n buffer ≡ Accepted → leavesAsked geo image (writing geo image n buffer) ≡ true)
     × (releaseAnswer geo image n ≡ Accepted → leavesAsked geo image (releasing geo image n) ≡ true)
+    × (repairAnswer geo image ≡ Accepted → leavesAsked geo image (repairing geo image) ≡ true)
 
 -- ---- Demand 3.
 
@@ -166,12 +183,13 @@ WriteBound =
     × (writeOutcome geo image n buffer .words ≤ 133 * (d geo - g geo) + 136)
     × (writeOutcome geo image n buffer .erasures ≡ 0 → writeOutcome geo image n buffer .words ≤ 135)
 
--- A run of calls from a format on, with w accepted writes and at least one erasure: E erasures need (B − 1)·d + g·(E − 1) + 1 writes or
+-- A run of calls from a format on, without a cut (K4), with w accepted writes and at least one erasure: E erasures need (B − 1)·d + g·(E − 1) + 1 writes or
 -- more. The erase counts add up to E.
 abbrev pub RunBound : Type 0
 RunBound =
     (geo : Geometry) (before : Image) (calls : List Call) →
     formatAnswer geo before ≡ Accepted →
+    uncut geo (started (formatted geo before)) calls ≡ true →
     let end : State = ran geo (started (formatted geo before)) calls in
     (1 ≤ end .erasures → (geo .blocks - 1) * d geo + g geo * (end .erasures - 1) + 1 ≤ end .writes)
     × (sumBelow (geo .blocks) (eraseCount geo (end .image)) ≡ end .erasures)
@@ -182,6 +200,7 @@ RunBoundFromAny =
     (geo : Geometry) (image : Image) (calls : List Call) →
     checkAnswer geo image ≡ Accepted →
     Words32 image →
+    uncut geo (started image) calls ≡ true →
     let end : State = ran geo (started image) calls in
     (1 ≤ end .erasures → sumBelow (geo .blocks) (freeSlots geo image) + g geo * (end .erasures - 1) + 1 ≤ end .writes + d geo)
     × (sumBelow (geo .blocks) (eraseCount geo (end .image)) ≡ sumBelow (geo .blocks) (eraseCount geo image) + end .erasures)

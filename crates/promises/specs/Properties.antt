@@ -20,8 +20,8 @@ use Rattle.flash.specs.Steps.{run, wordsIn, programsWord}
 use Rattle.flash.specs.Placing.{fillsSlot, placing}
 use Rattle.answers.specs.declared.Answer.the-variants.{Accepted}
 use Rattle.calls.specs.Refusals.{formatAnswer, checkAnswer, readAnswer, writeAnswer, releaseAnswer}
-use Rattle.calls.specs.Calls.{formatted, reported, readBuffer, writeSteps, releaseSteps, writeOutcome, written, releaseOutcome, released}
-use Rattle.promises.specs.Runs.{Call, ran, started}
+use Rattle.calls.specs.Calls.{formatted, reported, readBuffer, writeSteps, releaseSteps, repairSteps, writeOutcome, written, releaseOutcome, released}
+use Rattle.promises.specs.Runs.{Call, ran, uncut, started}
 
 -- The map is well defined: on a well-formed image at most one slot is live for a number, and the map gives its contents.
 abbrev pub TheOneSlot : Type 0
@@ -54,12 +54,17 @@ FormatMakesAFreshImage =
     × (sumBelow (geo .blocks) (freeSlots geo (formatted geo image)) ≡ geo .blocks * d geo)
     × (sumBelow (geo .blocks) (eraseCount geo (formatted geo image)) ≡ 0)
 
--- After a format and any run of calls a check accepts the image. So it does after any run from an image that it accepts.
+-- After a format and any run of calls without a cut (K4) a check accepts the image. So it does after any run from an image that it accepts.
 abbrev pub RunsStayWellFormed : Type 0
 RunsStayWellFormed =
     (geo : Geometry) (image : Image) (calls : List Call) →
-    (formatAnswer geo image ≡ Accepted → checkAnswer geo (ran geo (started (formatted geo image)) calls .image) ≡ Accepted)
-    × (checkAnswer geo image ≡ Accepted → Words32 image → checkAnswer geo (ran geo (started image) calls .image) ≡ Accepted)
+    (formatAnswer geo image ≡ Accepted →
+    uncut geo (started (formatted geo image)) calls ≡ true →
+    checkAnswer geo (ran geo (started (formatted geo image)) calls .image) ≡ Accepted)
+    × (checkAnswer geo image ≡ Accepted →
+    Words32 image →
+    uncut geo (started image) calls ≡ true →
+    checkAnswer geo (ran geo (started image) calls .image) ≡ Accepted)
 
 -- A report's mapped, free and dead slots add up to B·d, and mapped is at most L.
 abbrev pub ReportAddsUp : Type 0
@@ -83,14 +88,17 @@ OthersReadAsBefore =
     (readAnswer geo (released geo image n) m handed ≡ readAnswer geo image m handed)
     × (readBuffer geo (released geo image n) m handed ≡ readBuffer geo image m handed))
 
--- The words that a block leaves unused (FORMAT.md, A block in words) are never programmed: no step of a write or a release asks for one.
+-- The words that a block leaves unused (FORMAT.md, A block in words) are never programmed: no step of a write, a release or a repair (K4)
+-- asks for one.
 abbrev pub UnusedWordsAreNotProgrammed : Type 0
 UnusedWordsAreNotProgrammed =
     (geo : Geometry) (image : Image) (n b j : ℕ) (buffer : List ℕ) →
     Words32 image →
     Words32 buffer →
     Unused geo j →
-    (programsWord (writeSteps geo image n buffer) (place geo b j) ≡ false) × (programsWord (releaseSteps geo image n) (place geo b j) ≡ false)
+    (programsWord (writeSteps geo image n buffer) (place geo b j) ≡ false)
+    × (programsWord (releaseSteps geo image n) (place geo b j) ≡ false)
+    × (programsWord (repairSteps geo image) (place geo b j) ≡ false)
 
 -- What placing n in slot i of block b costs, whatever the image: 131 words, 2 more where n was mapped, 2 more where this leaves no slot of
 -- the block free. So 131, 133, 133 or 135.

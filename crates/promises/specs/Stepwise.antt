@@ -1,4 +1,4 @@
--- K4, step by step: what asking for the steps of a write or a release one by one comes to, and what carrying out its first steps leaves
+-- K4, step by step: what asking for the steps of a write, a release or a repair one by one comes to, and what carrying out its first steps leaves
 -- (FORMAT.md, Step by step). proofs/Stepwise.antt proves each statement under its name in small letters.
 use mathlib.Core.Path.{_≡_}
 use mathlib.Core.Logic.{_≢_, _↔_}
@@ -11,9 +11,9 @@ use Rattle.flash.specs.declared.NextStep.the-variants.{Next, Done}
 use Rattle.flash.specs.Steps.{applied}
 use Rattle.answers.specs.declared.Answer.the-variants.{Accepted}
 use Rattle.calls.specs.declared.Outcome.{Outcome}
-use Rattle.calls.specs.Refusals.{writeAnswer, releaseAnswer}
-use Rattle.calls.specs.Calls.{outcome, writeOutcome, written, releaseOutcome, released, writeFirstOutcome, writtenFirst, releaseFirstOutcome, releasedFirst}
-use Rattle.stepwise.specs.Calls.{writeStep, releaseStep}
+use Rattle.calls.specs.Refusals.{writeAnswer, releaseAnswer, repairAnswer}
+use Rattle.calls.specs.Calls.{outcome, writeOutcome, written, releaseOutcome, released, writeFirstOutcome, writtenFirst, releaseFirstOutcome, releasedFirst, repairOutcome, repaired, repairFirstOutcome, repairedFirst}
+use Rattle.stepwise.specs.Calls.{writeStep, releaseStep, repairStep}
 
 -- a part, and how many steps were carried out on it
 pub record Part : Type 0 where
@@ -57,6 +57,9 @@ StepsMakeTheCall =
     × StepsMake geo image (λ i. releaseStep geo image n i .next)
     (releaseOutcome geo image n) (released geo image n)
     (releaseFirstOutcome geo image n) (releasedFirst geo image n)
+    × StepsMake geo image (λ i. repairStep geo image i .next)
+    (repairOutcome geo image) (repaired geo image)
+    (repairFirstOutcome geo image) (repairedFirst geo image)
 
 -- Both kinds of call give the answer of the whole call, the pair of refusal 4 included, whichever step or however many are asked for. Where it is a
 -- refusal there is no step, nothing changes and zeros are reported.
@@ -65,8 +68,10 @@ StepsRefuseAlike =
     (geo : Geometry) (image : Image) (n : ℕ) (buffer : List ℕ) (i : ℕ) →
     (writeStep geo image n buffer i .answer ≡ writeAnswer geo image n buffer)
     × (releaseStep geo image n i .answer ≡ releaseAnswer geo image n)
+    × (repairStep geo image i .answer ≡ repairAnswer geo image)
     × (writeFirstOutcome geo image n buffer i .answer ≡ writeAnswer geo image n buffer)
     × (releaseFirstOutcome geo image n i .answer ≡ releaseAnswer geo image n)
+    × (repairFirstOutcome geo image i .answer ≡ repairAnswer geo image)
     × (writeAnswer geo image n buffer ≢ Accepted →
     (writeStep geo image n buffer i .next ≡ Done)
     × (writtenFirst geo image n buffer i ≡ image)
@@ -75,3 +80,7 @@ StepsRefuseAlike =
     (releaseStep geo image n i .next ≡ Done)
     × (releasedFirst geo image n i ≡ image)
     × (releaseFirstOutcome geo image n i ≡ outcome (releaseAnswer geo image n) []))
+    × (repairAnswer geo image ≢ Accepted →
+    (repairStep geo image i .next ≡ Done)
+    × (repairedFirst geo image i ≡ image)
+    × (repairFirstOutcome geo image i ≡ outcome (repairAnswer geo image) []))

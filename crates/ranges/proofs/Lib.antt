@@ -1,4 +1,5 @@
 pub mod Tests
 pub mod Sums
+pub mod Largest
 pub mod Searches
 pub mod Lists

@@ -1,12 +1,13 @@
--- The laws of `listBelow`. Assumes nothing.
+-- The laws of `listBelow` and `joinBelow`. Assumes nothing.
 use Prim.Native.Nat.{ℕ, zero, suc, _<_}
 use mathlib.Core.Path.{_≡_, refl, ap, ap₂, _∙_}
 use mathlib.Core.Logic.{⊎-elim}
-use mathlib.Core.List.{[], _∷_, _++_}
+use mathlib.Core.List.{List, [], _∷_, _++_}
+use native.Mathlib.Nat.{le-step, lt-suc-self}
 use native.Mathlib.Omega.{arith}
 use lib.ListN.{length, getD, length-append, List·getD-append}
 use lib.Seq.{getD-at}
-use Rattle.ranges.specs.Range.{listBelow}
+use Rattle.ranges.specs.Range.{sumBelow, listBelow, joinBelow}
 use Rattle.ranges.proofs.Tests.{below-suc}
 
 pub list-length : {A : Type 0} (m : ℕ) (f : ℕ → A) → length (listBelow m f) ≡ m
@@ -34,3 +35,22 @@ pub list-same : {A : Type 0} (m : ℕ) (f g : ℕ → A) → ((i : ℕ) → f i 
 unfolding listBelow
 list-same zero f g e = refl
 list-same (suc m) f g e = ap₂ _++_ (list-same m f g e) (ap (_∷ []) (e m))
+
+-- ---- lists one behind the other
+
+-- equal lists
+pub join-ext : {A : Type 0} (m : ℕ) {f g : ℕ → List A} → ((i : ℕ) → i < m → f i ≡ g i) → joinBelow m f ≡ joinBelow m g
+unfolding joinBelow
+join-ext zero h = refl
+join-ext (suc m) h = ap₂ _++_ (join-ext m (λ i l. h i (le-step l))) (h m (lt-suc-self m))
+
+pub join-length : {A : Type 0} (m : ℕ) (f : ℕ → List A) → length (joinBelow m f) ≡ sumBelow m (λ i. length (f i))
+unfolding joinBelow sumBelow
+join-length zero f = refl
+join-length (suc m) f = length-append (joinBelow m f) (f m) ∙ omega (arith, join-length m f)
+
+-- empty ones
+pub join-none : {A : Type 0} (m : ℕ) {f : ℕ → List A} → ((k : ℕ) → k < m → f k ≡ []) → joinBelow m f ≡ []
+unfolding joinBelow
+join-none zero each = refl
+join-none (suc m) each = ap₂ _++_ (join-none m (λ k l. each k (omega arith))) (each m (omega arith))

@@ -4,6 +4,7 @@ use mathlib.Core.Path.{_≡_, refl, sym, ap, _∙_}
 use mathlib.Core.Logic.{⊎-elim}
 use mathlib.Core.Bool.{Bool, true, false, _&&_, cond, and-true, true≢false, false≢true}
 use native.Mathlib.Nat.{le-step, lt-suc-self, le-refl}
+use native.Mathlib.Decide.{decLt}
 use native.Mathlib.Numerals.{add-one}
 use native.Mathlib.Omega.{arith}
 use lib.Dec.{ltb}
@@ -176,20 +177,96 @@ best-least key m f {i} l t =
     (below-suc l))
     m .0 i l t .1
 
--- the same indices pass, and the same beat each other
+-- the same indices pass, and those that do beat each other alike
+pub best-alike :
+    (m : ℕ) {f g : ℕ → Bool} {beats wins : ℕ → ℕ → Bool} →
+    ((i : ℕ) → i < m → f i ≡ g i) →
+    ((i r : ℕ) → i < m → r < m → f i ≡ true → f r ≡ true → beats i r ≡ wins i r) →
+    bestBelow beats m f ≡ bestBelow wins m g
+unfolding bestBelow
+best-alike zero h b = refl
+best-alike (suc m) {f} {g} {beats} {wins} h b =
+    rw (best-alike m (λ i l. h i (le-step l)) (λ i r l k. b i r (le-step l) (le-step k)), h m (lt-suc-self m))
+    (go (bestBelow wins m g) (best-passes wins m g) (ltb (bestBelow wins m g) m) refl (g m) refl)
+  where
+    go :
+        (r : ℕ) →
+        (r < m → g r ≡ true) →
+        (x : Bool) →
+        ltb r m ≡ x →
+        (t : Bool) →
+        g m ≡ t →
+        cond x (cond (t && beats m r) m r) (cond t m (suc m)) ≡ cond x (cond (t && wins m r) m r) (cond t m (suc m))
+    go r p true l true e =
+        let k = ltb-true r m l in
+        rw (b m r (lt-suc-self m) (le-step k) (h m (lt-suc-self m) ∙ e) (h r (le-step k) ∙ p k))
+    go r p true l false e = refl
+    go r p false l t e = refl
+
 pub best-ext :
     (m : ℕ) {f g : ℕ → Bool} {beats wins : ℕ → ℕ → Bool} →
     ((i : ℕ) → i < m → f i ≡ g i) →
     ((i r : ℕ) → i < m → r < m → beats i r ≡ wins i r) →
     bestBelow beats m f ≡ bestBelow wins m g
-unfolding bestBelow
-best-ext zero h b = refl
-best-ext (suc m) {f} {g} {beats} {wins} h b =
-    rw (
-      best-ext m (λ i l. h i (le-step l)) (λ i r l k. b i r (le-step l) (le-step k)),
-      h m (lt-suc-self m),
-      b m (bestBelow wins m g) (lt-suc-self m) (suc-le-suc (best-le wins m g)),
-    )
+best-ext m h b = best-alike m h (λ i r l k t u. b i r l k)
+
+-- r beats those before it that pass, and is beaten by none behind it that does
+abbrev pub Foremost : (ℕ → ℕ → Bool) → ℕ → (ℕ → Bool) → ℕ → Type 0
+Foremost beats m f r =
+    ((c : ℕ) → c < r → f c ≡ true → beats r c ≡ true) × ((c : ℕ) → r < c → c < m → f c ≡ true → beats c r ≡ false)
+
+-- such an index is the best where it passes itself
+pub best-is :
+    (beats : ℕ → ℕ → Bool) (m : ℕ) (f : ℕ → Bool) (v : ℕ) → v < m → f v ≡ true → Foremost beats m f v → bestBelow beats m f ≡ v
+best-is beats m f v l t foremost =
+    best-ind beats f (λ n r. n ≤ m → (r < n → f r ≡ true) × (v < n → r ≡ v))
+    (λ k. ((λ h. absurd (omega arith)), λ h. absurd (omega arith)))
+    (λ n p e k. ((λ h. e), λ h. ⊎-elim sym (λ q. p (omega arith) .1 q) (below-suc h)))
+    (λ n p e k. (
+      (λ h. absurd (omega arith)),
+      λ h. ⊎-elim (λ q. absurd (true≢false (sym t ∙ ap f q ∙ e))) (λ q. absurd (omega (arith, p (omega arith) .1 q))) (below-suc h),
+    ))
+    (λ n r p q e b k. ((λ h. e), λ h. ⊎-elim sym (λ x. absurd (true≢false (sym b ∙ loses n r (p (omega arith) .1 x) x (omega arith) e))) (below-suc h)))
+    (λ n r p q b k. (
+      (λ h. p (omega arith) .0 q),
+      λ h. ⊎-elim (λ e. absurd (true≢false (sym (wins n r e q (p (omega arith) .0 q)) ∙ b))) (λ x. p (omega arith) .1 x) (below-suc h),
+    ))
+    m .0 (omega arith) .1 l
+  where
+    loses : (n r : ℕ) → r ≡ v → v < n → n < m → f n ≡ true → beats n r ≡ false
+    loses n r e h k q = rw e (foremost .1 n h k q)
+
+    wins : (n r : ℕ) → v ≡ n → r < n → f r ≡ true → (f n && beats n r) ≡ true
+    wins n r e h q = rw (← e, t) (foremost .0 r (omega arith) q)
+
+-- and the other way, where beating passes on: through one between, and over one that does not beat
+module _
+    (beats : ℕ → ℕ → Bool)
+    (through : (i j k : ℕ) → beats i j ≡ true → beats j k ≡ true → beats i k ≡ true)
+    (over : (i j k : ℕ) → beats i k ≡ true → beats j k ≡ false → beats i j ≡ true) where
+  pub best-foremost : (m : ℕ) (f : ℕ → Bool) → bestBelow beats m f < m → Foremost beats m f (bestBelow beats m f)
+  best-foremost m f =
+      best-ind beats f (λ m r. (r ≡ m → (c : ℕ) → c < m → f c ≡ false) × (r < m → Foremost beats m f r))
+      ((λ e c l. absurd (omega arith)), λ l. absurd (omega arith))
+      (λ m p t. ((λ e. absurd (omega arith)), λ l. ((λ c k u. absurd (true≢false (sym u ∙ p .0 refl c k))), λ c k h u. absurd (omega arith))))
+      (λ m p t. ((λ e c l. ⊎-elim (λ q. rw q t) (λ k. p .0 refl c k) (below-suc l)), λ l. absurd (omega arith)))
+      (λ m r p l t b. ((λ e. absurd (omega arith)), λ k. (takes m r (p .1 l) l b, λ c h q u. absurd (omega arith))))
+      (λ m r p l b. (
+        (λ e. absurd (omega arith)),
+        λ k. (
+          p .1 l .0,
+          λ c h q u. ⊎-elim (λ e. rw e (rw (sym (ap f e) ∙ u) at b)) (λ n. p .1 l .1 c h n u) (below-suc q),
+        ),
+      ))
+      m .0 .1
+    where
+      takes : (m r : ℕ) → Foremost beats m f r → r < m → beats m r ≡ true → (c : ℕ) → c < m → f c ≡ true → beats m c ≡ true
+      takes m r p l b c k u = go (decLt c r) (decLt r c)
+        where
+          go : Dec (c < r) → Dec (r < c) → beats m c ≡ true
+          go (yes h) x = through m r c b (p .0 c h u)
+          go (no h) (yes x) = over m c r b (p .1 c x k u)
+          go (no h) (no x) = let same : c ≡ r = omega arith in rw same b
 
 -- ---- the first
 

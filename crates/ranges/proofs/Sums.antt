@@ -4,7 +4,7 @@ use mathlib.Core.Path.{_≡_, refl, sym, ap, _∙_}
 use mathlib.Core.Logic.{_⊎_, inl, inr, ⊎-elim, _≢_}
 use mathlib.Core.Bool.{Bool, true, false, not, cond, true≢false}
 use native.Mathlib.Nat.{eq-zero-or-pos, le-step, lt-suc-self, add-zero, add-suc}
-use native.Mathlib.Decide.{ℕ-discrete}
+use native.Mathlib.Decide.{ℕ-discrete, decLt}
 use native.Mathlib.Omega.{arith}
 use lib.Dec.{eqb}
 use borrow.Author.Tests.{eq-eqb, ne-eqb, eqb-true, eqb-false}
@@ -289,6 +289,40 @@ count-from m a {f} l before behind =
     let low = count-none a before in
     let high = count-every (m - a) {f = λ i. f (a + i)} (λ i h. behind (a + i) (omega arith) (omega arith)) in
     omega (arith, sum-cut a (m - a) (λ i. one-if (f i)), ap (λ (n : ℕ). countBelow n f) whole)
+
+-- ---- the r-th of the indices that pass
+
+-- it passes, and r before it do
+pub record NthBelow (m : ℕ) (f : ℕ → Bool) (r : ℕ) : Type 0 where
+  pub i : ℕ
+  pub below : i < m
+  pub passes : f i ≡ true
+  pub before : countBelow i f ≡ r
+
+-- it is there where more than r pass
+pub count-nth : (m : ℕ) (f : ℕ → Bool) (r : ℕ) → r < countBelow m f → NthBelow m f r
+unfolding sumBelow
+count-nth zero f r l = absurd (omega arith)
+count-nth (suc m) f r l = go (decLt r (countBelow m f)) (count-nth m f r)
+  where
+    go : Dec (r < countBelow m f) → (r < countBelow m f → NthBelow m f r) → NthBelow (suc m) f r
+    go (yes h) earlier =
+        let e = earlier h in
+        record { i = e .i; below = omega (arith, e .below); passes = e .passes; before = e .before }
+    go (no h) earlier =
+        record { i = m; below = omega arith; passes = one-if-positive (f m) (omega arith); before = omega (arith, one-if-le (f m)) }
+
+-- an index that passes has fewer before it than a later one has
+pub count-grows : (f : ℕ → Bool) {i j : ℕ} → f i ≡ true → i < j → countBelow i f < countBelow j f
+unfolding sumBelow
+count-grows f {i} {j} e l = omega (arith, sum-prefix {m = suc i} {n = j} (λ x. one-if (f x)) l, ap one-if e)
+
+-- so there is one r-th at most
+pub nth-alone : (f : ℕ → Bool) (i j : ℕ) → f i ≡ true → f j ≡ true → countBelow i f ≡ countBelow j f → i ≡ j
+nth-alone f i j e e' same = unless-apart (λ l. omega (arith, count-grows f e l)) (λ l. omega (arith, count-grows f e' l))
+  where
+    unless-apart : (i < j → ⊥) → (j < i → ⊥) → i ≡ j
+    unless-apart below above = omega arith
 
 -- ---- counts and tests of the range: each says the other
 

@@ -2,7 +2,7 @@
 -- the invariant of such a loop is the definition at the loop's index. Their laws are in proofs/.
 use mathlib.Core.Bool.{Bool, true, false, cond, _&&_, _||_}
 use mathlib.Core.List.{List, [], _∷_, _++_}
-use Prim.Native.Nat.{ℕ, zero, suc, _+_}
+use Prim.Native.Nat.{ℕ, zero, suc, _+_, max}
 use lib.Dec.{eqb, ltb}
 
 infixr 25 _implies_
@@ -43,6 +43,16 @@ countBelow m f = sumBelow m (λ i. one-if (f i))
 unfoldable pub listBelow : {A : Type 0} → ℕ → (ℕ → A) → List A
 listBelow zero f = []
 listBelow (suc m) f = listBelow m f ++ (f m ∷ [])
+
+-- the lists f 0, f 1, .. f (m − 1), one behind the other
+unfoldable pub joinBelow : {A : Type 0} → ℕ → (ℕ → List A) → List A
+joinBelow zero f = []
+joinBelow (suc m) f = joinBelow m f ++ f m
+
+-- the largest of f 0, f 1, .. f (m − 1); 0 where there is none
+unfoldable pub largestBelow : ℕ → (ℕ → ℕ) → ℕ
+largestBelow zero f = 0
+largestBelow (suc m) f = max (largestBelow m f) (f m)
 
 -- Of the indices below m at which f passes, the one that is left when each in turn takes the place of the one before it
 -- wherever it beats it; m where f passes at none.

@@ -1,7 +1,7 @@
 -- The statements of specs/Scripts.antt: the records since the last accepted operation 4 are a run of calls after a format, of which demand 3 holds.
 -- Assumes nothing.
 use mathlib.Core.Path.{_≡_, refl, sym, ap, _∙_}
-use mathlib.Core.Bool.{Bool, true, false, cond}
+use mathlib.Core.Bool.{Bool, true, false, not, cond}
 use mathlib.Core.Logic.{_≢_, _↔_}
 use mathlib.Core.List.{List, [], _∷_, _++_}
 use Prim.Native.Nat.{ℕ, _+_, _≤_}
@@ -10,6 +10,7 @@ use borrow.Author.Tests.{eq-eqb, ne-eqb}
 use lib.Dec.{eqb}
 use lib.ListN.{length}
 use Rattle.ranges.specs.Range.{one-if}
+use Rattle.ranges.proofs.Tests.{both-pass}
 use Rattle.geometry.specs.declared.Geometry.{Geometry}
 use Rattle.geometry.specs.Geometry.{filled, imageLength, Limits}
 use Rattle.geometry.proofs.Laws.{limits-pass}
@@ -20,7 +21,7 @@ use Rattle.answers.specs.Answers.{numberOf, ifAccepted}
 use Rattle.answers.proofs.Acceptance.{accepted-number, if-accepted, if-refused, accepted?}
 use Rattle.calls.specs.Refusals.{row1, formatAnswer, checkAnswer, writeAnswer}
 use Rattle.calls.specs.Calls.{fresh, formatted, written, released, totalsOf, noTotals, reported}
-use Rattle.promises.specs.Runs.{Call, Check, Write, Release, State, called, ran, started}
+use Rattle.promises.specs.Runs.{Call, Check, Write, Release, State, called, ran, isCut, uncut, started}
 use Rattle.calls.proofs.AcceptedCalls.{format-accepted}
 use Rattle.promises.proofs.Demands.{refused-changes-nothing, run-bound}
 use Rattle.promises.proofs.Properties.{runs-stay-well-formed}
@@ -35,6 +36,13 @@ ran-on : (geo : Geometry) (s : State) (cs : List Call) (c : Call) → ran geo s 
 unfolding ran
 ran-on geo s [] c = refl
 ran-on geo s (x ∷ cs) c = ran-on geo (called geo s x) cs c
+
+uncut-on : (geo : Geometry) (s : State) (cs : List Call) (c : Call) → uncut geo s cs ≡ true → isCut geo (ran geo s cs .image) c ≡ false → uncut geo s (cs ++ (c ∷ [])) ≡ true
+unfolding ran uncut
+uncut-on geo s [] c whole no-cut = rw no-cut
+uncut-on geo s (x ∷ cs) c whole no-cut =
+    let parts = both-pass (not (isCut geo (s .image) x)) (uncut geo (called geo s x) cs) whole in
+    rw (parts .0) (uncut-on geo (called geo s x) cs c (parts .1) no-cut)
 
 writes-on : (ls : List Line) (l : Line) → writesTold (ls ++ (l ∷ [])) ≡ writesTold ls + one-if (acceptedWrite l)
 unfolding writesTold
@@ -92,14 +100,15 @@ record Standing (s : Script) (kept : List Line) : Type 0 where
   stands :
       ran (scriptGeometry (s .logical)) (started (formatted (scriptGeometry (s .logical)) before)) calls
       ≡ state (s .image) (writesTold kept) (erasuresTold kept)
+  whole : uncut (scriptGeometry (s .logical)) (started (formatted (scriptGeometry (s .logical)) before)) calls ≡ true
 
 -- after an accepted format, with no line since
 just-formatted :
     (before : Image) (n : ℕ) →
     formatAnswer (scriptGeometry n) before ≡ Accepted →
     Standing (record { image = formatted (scriptGeometry n) before; logical = n }) []
-unfolding ran writesTold erasuresTold
-just-formatted before n accepted = record { before = before; accepted = accepted; calls = []; stands = refl }
+unfolding ran uncut writesTold erasuresTold
+just-formatted before n accepted = record { before = before; accepted = accepted; calls = []; stands = refl; whole = refl }
 
 -- a line, and the image and the L after it: which lines count from there on
 abbrev Next : List Line → Line → Image → ℕ → Type 0
@@ -116,11 +125,12 @@ module _ (s : Script) (kept : List Line) (st : Standing s kept) where
   call-more :
       (l : Line) (c : Call) (image : Image) →
       startsAnew l ≡ false →
+      ((x : Image) → isCut geo x c ≡ false) →
       called geo (state (s .image) (writesTold kept) (erasuresTold kept)) c
       ≡ state image (writesTold kept + one-if (acceptedWrite l)) (erasuresTold kept + l .erasures) →
       Next kept l image (s .logical)
   unfolding sinceLastFormat
-  call-more l c image goes-on does = (
+  call-more l c image goes-on no-cut does = (
     kept ++ (l ∷ []),
     λ ls. rw goes-on,
     record {
@@ -130,26 +140,27 @@ module _ (s : Script) (kept : List Line) (st : Standing s kept) where
       stands =
           rw (writes-on kept l, erasures-on kept l)
           (ran-on geo _ (st .calls) c ∙ ap (λ (t : State). called geo t c) (st .stands) ∙ does);
+      whole = uncut-on geo _ (st .calls) c (st .whole) (no-cut _);
     },
   )
 
   -- a record that leaves image and L, and whose line counts for nothing: as a check
   idle : (l : Line) → startsAnew l ≡ false → acceptedWrite l ≡ false → l .erasures ≡ 0 → Next kept l (s .image) (s .logical)
-  unfolding called
+  unfolding called isCut
   idle l goes-on no-write none =
-      call-more l Check (s .image) goes-on (rw (no-write, none) (same-counts (omega arith) (omega arith)))
+      call-more l Check (s .image) goes-on (λ x. refl) (rw (no-write, none) (same-counts (omega arith) (omega arith)))
 
   writes :
       (n fill : ℕ) →
       Next kept (writeLine (s .image) (s .logical) n fill) (written geo (s .image) n (filled fill)) (s .logical)
-  unfolding called
+  unfolding called isCut
   writes n fill =
-      call-more (writeLine (s .image) (s .logical) n fill) (Write n (filled fill)) _ refl
+      call-more (writeLine (s .image) (s .logical) n fill) (Write n (filled fill)) _ refl (λ x. refl)
       (same-counts (ap (writesTold kept +_) (sym (counted (writeAnswer geo (s .image) n (filled fill))))) refl)
 
   releases : (n : ℕ) → Next kept (releaseLine (s .image) (s .logical) n) (released geo (s .image) n) (s .logical)
-  unfolding called
-  releases n = call-more (releaseLine (s .image) (s .logical) n) (Release n) _ refl (same-counts (omega arith) refl)
+  unfolding called isCut
+  releases n = call-more (releaseLine (s .image) (s .logical) n) (Release n) _ refl (λ x. refl) (same-counts (omega arith) refl)
 
   formats : (n : ℕ) → Next kept (formatLine (s .image) n) (formatted (scriptGeometry n) (s .image)) (logicalFormatted (s .image) (s .logical) n)
   unfolding sinceLastFormat
@@ -207,8 +218,8 @@ script-run-bound before records long =
     let accepted = accepted-from-1-to-104 before defaultLogical long .1 (omega arith, omega arith) in
     let st = all-next records (startOf before) [] (just-formatted before defaultLogical accepted) in
     let geo = scriptGeometry (end .logical) in
-    let checked = rw (st .stands) at (runs-stay-well-formed geo (st .before) (st .calls) .0 (st .accepted)) in
-    let bound = rw (st .stands) at (run-bound geo (st .before) (st .calls) (st .accepted)) in
+    let checked = rw (st .stands) at (runs-stay-well-formed geo (st .before) (st .calls) .0 (st .accepted) (st .whole)) in
+    let bound = rw (st .stands) at (run-bound geo (st .before) (st .calls) (st .accepted) (st .whole)) in
     let totals = if-accepted (totalsOf geo (end .image)) (noTotals (checkAnswer geo (end .image))) checked in
     (checked, bound .0, ap (λ t. t .«erase_sum») totals ∙ bound .1)
 

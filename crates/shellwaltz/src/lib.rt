@@ -1,12 +1,12 @@
-// The calls: each tests its rows of the table of refusals (docs/FORMAT.md, Refusals), in the table's order, and then does its work.
+// The calls: each tests its rows of the table of refusals (docs/FORMAT.md, Refusals), in the order there, and then does its work.
 // Any geometry, image, number or buffer may be handed in; a refused call changes no word. One that refuses with 4 passes on the first block
-// and rule that fail. A read, a write and a release are those of the crate `calls`, with a lookup table of no words.
+// and rule that fail. A read, a write, a release and a repair are those of the crate `calls`, with a lookup table of no words where they take one.
 ghost use mathlib.Core.Bool.{true};
 ghost use mathlib.Core.Path.{_≡_};
 ghost use Rattle.image.specs.Words.{Shaped};
 ghost use Rattle.image.specs.WellFormed.{wellFormed};
 ghost use Rattle.calls.specs.Refusals.{checkAnswer, readAnswer};
-ghost use Rattle.calls.specs.Calls.{countsZeroed, formatOutcome, formatted, totalsOf, reported, readBuffer, writeOutcome, written, releaseOutcome, released};
+ghost use Rattle.calls.specs.Calls.{countsZeroed, formatOutcome, formatted, totalsOf, reported, readBuffer, writeOutcome, written, releaseOutcome, released, repairOutcome, repaired};
 use answers::Answer;
 use calls::Outcome;
 use calls::Totals;
@@ -137,4 +137,12 @@ pub fn release(image: &mut [u32], geo: Geometry, n: u32) -> Outcome
 {
     let mut none = [0u16; 0];
     calls::release_by(image, geo, n, &mut none)
+}
+
+// Mends what a call that was cut short has left (K4); every number stays mapped, or not, as it was. Refuses 1, 4, 10 and 6.
+pub fn repair(image: &mut [u32], geo: Geometry) -> Outcome
+    ensures { λ r. ⌜ r ≡ repairOutcome geo (now (image .entry)) ⌝ }
+    ensures { λ _. ⌜ now (image .exit) ≡ repaired geo (now (image .entry)) ⌝ }
+{
+    calls::repair_by(image, geo)
 }

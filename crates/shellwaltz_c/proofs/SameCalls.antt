@@ -20,10 +20,32 @@ use Rattle.answers.specs.declared.Answer.{Answer}
 use Rattle.answers.specs.declared.Answer.the-variants.{BadGeometry}
 use Rattle.answers.specs.Answers.{numberOf, blockOf, ruleOf}
 use Rattle.calls.specs.declared.Outcome.{Outcome}
-use Rattle.calls.specs.Refusals.{formatAnswer, checkAnswer, readAnswer, writeAnswer, releaseAnswer}
-use Rattle.calls.specs.Calls.{formatOutcome, formatted, noTotals, reported, readBuffer, outcome, writeSteps, writeOutcome, written, writeFirstOutcome, writtenFirst, releaseSteps, releaseOutcome, released, releaseFirstOutcome, releasedFirst}
+use Rattle.calls.specs.Refusals.{formatAnswer, checkAnswer, readAnswer, writeAnswer, releaseAnswer, repairAnswer}
+use Rattle.calls.specs.Calls.{
+  formatOutcome,
+  formatted,
+  noTotals,
+  reported,
+  readBuffer,
+  outcome,
+  writeSteps,
+  writeOutcome,
+  written,
+  writeFirstOutcome,
+  writtenFirst,
+  releaseSteps,
+  releaseOutcome,
+  released,
+  releaseFirstOutcome,
+  releasedFirst,
+  repairSteps,
+  repairOutcome,
+  repaired,
+  repairFirstOutcome,
+  repairedFirst,
+}
 use Rattle.stepwise.specs.declared.Stepped.{Stepped}
-use Rattle.stepwise.specs.Calls.{writeStep, releaseStep}
+use Rattle.stepwise.specs.Calls.{writeStep, releaseStep, repairStep}
 use Rattle.tabled.specs.Refusals.{buildAnswer, readAnswerWith, writeAnswerWith, releaseAnswerWith}
 use Rattle.tabled.specs.Calls.{tableBuilt, readBufferWith, writeStepsWith, writeOutcomeWith, writtenWith, writeTable, releaseStepsWith, releaseOutcomeWith, releasedWith, releaseTable}
 use Rattle.shellwaltz_c.specs.Plain.{narrowed}
@@ -104,6 +126,13 @@ module _ {geo : Geometry} (b s l : ℕ) (e : geo ≡ shape (narrowed b) (narrowe
     narrowing (λ x. released x image n) image (λ x out. rw out (run-none x image)) b s l e,
   )
 
+  pub repair-same : (repairOutcome geo image ≡ repairOutcome (shape b s l) image) × (repaired geo image ≡ repaired (shape b s l) image)
+  unfolding repairAnswer repairSteps
+  repair-same = (
+    narrowing (λ x. repairOutcome x image) (outcome BadGeometry []) (λ x out. rw out) b s l e,
+    narrowing (λ x. repaired x image) image (λ x out. rw out (run-none x image)) b s l e,
+  )
+
 -- ---- the same with a lookup table (K2)
 module _ {geo : Geometry} (b s l : ℕ) (e : geo ≡ shape (narrowed b) (narrowed s) l) (image : Image) where
   pub build-same :
@@ -163,6 +192,10 @@ module _ {geo : Geometry} (b s l : ℕ) (e : geo ≡ shape (narrowed b) (narrowe
   unfolding releaseAnswer releaseSteps stepAt
   release-step-same n i = narrowing (λ x. releaseStep x image n i) (record { answer = BadGeometry; next = Done }) (λ x out. rw out) b s l e
 
+  pub repair-step-same : (i : ℕ) → repairStep geo image i ≡ repairStep (shape b s l) image i
+  unfolding repairAnswer repairSteps stepAt
+  repair-step-same i = narrowing (λ x. repairStep x image i) (record { answer = BadGeometry; next = Done }) (λ x out. rw out) b s l e
+
   pub write-first-same :
       (n : ℕ) (buffer : List ℕ) (j : ℕ) →
       (writeFirstOutcome geo image n buffer j ≡ writeFirstOutcome (shape b s l) image n buffer j)
@@ -183,6 +216,15 @@ module _ {geo : Geometry} (b s l : ℕ) (e : geo ≡ shape (narrowed b) (narrowe
     narrowing (λ x. releasedFirst x image n j) image (λ x out. rw (out, take-nil {A = Step} j) (run-none x image)) b s l e,
   )
 
+  pub repair-first-same :
+      (j : ℕ) →
+      (repairFirstOutcome geo image j ≡ repairFirstOutcome (shape b s l) image j) × (repairedFirst geo image j ≡ repairedFirst (shape b s l) image j)
+  unfolding repairAnswer repairSteps
+  repair-first-same j = (
+    narrowing (λ x. repairFirstOutcome x image j) (outcome BadGeometry []) (λ x out. rw (out, take-nil {A = Step} j)) b s l e,
+    narrowing (λ x. repairedFirst x image j) image (λ x out. rw (out, take-nil {A = Step} j) (run-none x image)) b s l e,
+  )
+
 -- what a call gave, and what it gives for the numbers handed in: the answer by its number, the image, and the two counts
 pub parts :
     {number : ℕ} {gave passed says : Outcome} {left passes leaves : Image} →
@@ -199,7 +241,7 @@ parts is-number (gives, leaves-it) (same, same-image) = (
 pub names : {block rule : ℕ} {gave says : Answer} → block ≡ blockOf gave → rule ≡ ruleOf gave → gave ≡ says → (block ≡ blockOf says) × (rule ≡ ruleOf says)
 names is-block is-rule same = (is-block ∙ ap blockOf same, is-rule ∙ ap ruleOf same)
 
--- the parts of a write or a release, and the pair
+-- the parts of a write, a release or a repair, and the pair
 pub parts-and-pair :
     {number block rule : ℕ} {gave passed says : Outcome} {left passes leaves : Image} →
     number ≡ numberOf (gave .answer) →
@@ -232,7 +274,7 @@ parts-and-table is-number is-block is-rule (gives, (leaves-it, notes-it)) (same,
     let (number, (left, rest)) = parts-and-pair is-number is-block is-rule (gives, leaves-it) (same, same-image) in
     (number, (left, (notes-it ∙ same-table, rest)))
 
--- the parts of one step of a write or a release, and the pair
+-- the parts of one step of a write, a release or a repair, and the pair
 pub step-and-pair :
     {number kind place word block rule : ℕ} {gave says : Stepped} →
     number ≡ numberOf (gave .answer) →

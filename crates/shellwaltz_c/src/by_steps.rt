@@ -1,9 +1,9 @@
-// A write and a release step by step (K4) for C: a step is its kind, its place and its word, each through a pointer.
+// A write, a release and a repair step by step (K4) for C: a step is its kind, its place and its word, each through a pointer.
 ghost use mathlib.Core.Path.{_≡_};
 ghost use Rattle.geometry.specs.Geometry.{shape};
 ghost use Rattle.answers.specs.Answers.{numberOf, blockOf, ruleOf};
-ghost use Rattle.calls.specs.Calls.{writeFirstOutcome, writtenFirst, releaseFirstOutcome, releasedFirst};
-ghost use Rattle.stepwise.specs.Calls.{writeStep, releaseStep};
+ghost use Rattle.calls.specs.Calls.{writeFirstOutcome, writtenFirst, releaseFirstOutcome, releasedFirst, repairFirstOutcome, repairedFirst};
+ghost use Rattle.stepwise.specs.Calls.{writeStep, releaseStep, repairStep};
 ghost use Rattle.shellwaltz_c.specs.Told.{kindOf, placeOf, wordOf};
 use super::geometry;
 use flash::NextStep;
@@ -117,6 +117,39 @@ pub extern "C" fn shellwaltz_release_step(
     answers::number(answer)
 }
 
+// Step `step`, from 0, of a repair. Refuses 1, 4, 10 and 6.
+#[no_mangle]
+pub extern "C" fn shellwaltz_repair_step(
+    blocks: u32,
+    sectors: u32,
+    logical: u32,
+    image: &[u32],
+    step: u32,
+    kind: &mut u32,
+    place: &mut usize,
+    word: &mut u32,
+    bad_block: &mut u32,
+    bad_rule: &mut u32,
+) -> u32
+    ensures { λ r. ⌜ r ≡ numberOf (repairStep (shape blocks sectors logical) (now (image .entry)) step .answer) ⌝ }
+    ensures { λ _. ⌜ now (kind .exit) ≡ kindOf (repairStep (shape blocks sectors logical) (now (image .entry)) step .next) ⌝ }
+    ensures { λ _. ⌜ now (place .exit) ≡ placeOf (repairStep (shape blocks sectors logical) (now (image .entry)) step .next) ⌝ }
+    ensures { λ _. ⌜ now (word .exit) ≡ wordOf (repairStep (shape blocks sectors logical) (now (image .entry)) step .next) ⌝ }
+    ensures { λ _. ⌜ now («bad_block» .exit) ≡ blockOf (repairStep (shape blocks sectors logical) (now (image .entry)) step .answer) ⌝ }
+    ensures { λ _. ⌜ now («bad_rule» .exit) ≡ ruleOf (repairStep (shape blocks sectors logical) (now (image .entry)) step .answer) ⌝ }
+{
+    let geo = geometry(blocks, sectors, logical);
+    let told = stepwise::repair_step(image, geo, step);
+    let next = told.next;
+    *kind = kind_of(next);
+    *place = place_of(next);
+    *word = word_of(next);
+    let answer = told.answer;
+    *bad_block = answers::bad_block(answer);
+    *bad_rule = answers::bad_rule(answer);
+    answers::number(answer)
+}
+
 // The first `most` steps of that write, or all where there are fewer. Refuses 1, 2, 3, 4 and 6.
 #[no_mangle]
 pub extern "C" fn shellwaltz_write_first(
@@ -175,6 +208,36 @@ pub extern "C" fn shellwaltz_release_first(
     *words = freed.words;
     *erasures = freed.erasures;
     let answer = freed.answer;
+    *bad_block = answers::bad_block(answer);
+    *bad_rule = answers::bad_rule(answer);
+    answers::number(answer)
+}
+
+// The first `most` steps of a repair, or all where there are fewer. Refuses 1, 4, 10 and 6.
+#[no_mangle]
+pub extern "C" fn shellwaltz_repair_first(
+    blocks: u32,
+    sectors: u32,
+    logical: u32,
+    image: &mut [u32],
+    most: u32,
+    words: &mut u32,
+    erasures: &mut u32,
+    bad_block: &mut u32,
+    bad_rule: &mut u32,
+) -> u32
+    ensures { λ r. ⌜ r ≡ numberOf (repairFirstOutcome (shape blocks sectors logical) (now (image .entry)) most .answer) ⌝ }
+    ensures { λ _. ⌜ now (image .exit) ≡ repairedFirst (shape blocks sectors logical) (now (image .entry)) most ⌝ }
+    ensures { λ _. ⌜ now (words .exit) ≡ repairFirstOutcome (shape blocks sectors logical) (now (image .entry)) most .words ⌝ }
+    ensures { λ _. ⌜ now (erasures .exit) ≡ repairFirstOutcome (shape blocks sectors logical) (now (image .entry)) most .erasures ⌝ }
+    ensures { λ _. ⌜ now («bad_block» .exit) ≡ blockOf (repairFirstOutcome (shape blocks sectors logical) (now (image .entry)) most .answer) ⌝ }
+    ensures { λ _. ⌜ now («bad_rule» .exit) ≡ ruleOf (repairFirstOutcome (shape blocks sectors logical) (now (image .entry)) most .answer) ⌝ }
+{
+    let geo = geometry(blocks, sectors, logical);
+    let mended = stepwise::repair_first(image, geo, most);
+    *words = mended.words;
+    *erasures = mended.erasures;
+    let answer = mended.answer;
     *bad_block = answers::bad_block(answer);
     *bad_rule = answers::bad_rule(answer);
     answers::number(answer)

@@ -5,7 +5,7 @@ ghost use mathlib.Core.Path.{_≡_};
 ghost use Rattle.geometry.specs.Geometry.{shape};
 ghost use Rattle.answers.specs.Answers.{numberOf, blockOf, ruleOf};
 ghost use Rattle.calls.specs.Refusals.{checkAnswer, readAnswer};
-ghost use Rattle.calls.specs.Calls.{formatted, formatOutcome, reported, readBuffer, writeOutcome, written, releaseOutcome, released};
+ghost use Rattle.calls.specs.Calls.{formatted, formatOutcome, reported, readBuffer, writeOutcome, written, releaseOutcome, released, repairOutcome, repaired};
 ghost use Rattle.shellwaltz_c.specs.Plain.{narrowed};
 use geometry::Geometry;
 
@@ -185,4 +185,32 @@ pub extern "C" fn shellwaltz_release(
     *bad_block = answers::bad_block(answer);
     *bad_rule = answers::bad_rule(answer);
     answers::number(answer)
+}
+
+// Mends what a call that was cut short has left (K4). Refuses 1, 4, 10 and 6.
+#[no_mangle]
+pub extern "C" fn shellwaltz_repair(
+    blocks: u32,
+    sectors: u32,
+    logical: u32,
+    image: &mut [u32],
+    words: &mut u32,
+    erasures: &mut u32,
+    bad_block: &mut u32,
+    bad_rule: &mut u32,
+) -> u32
+    ensures { λ r. ⌜ r ≡ numberOf (repairOutcome (shape blocks sectors logical) (now (image .entry)) .answer) ⌝ }
+    ensures { λ _. ⌜ now (image .exit) ≡ repaired (shape blocks sectors logical) (now (image .entry)) ⌝ }
+    ensures { λ _. ⌜ now (words .exit) ≡ repairOutcome (shape blocks sectors logical) (now (image .entry)) .words ⌝ }
+    ensures { λ _. ⌜ now (erasures .exit) ≡ repairOutcome (shape blocks sectors logical) (now (image .entry)) .erasures ⌝ }
+    ensures { λ _. ⌜ now («bad_block» .exit) ≡ blockOf (repairOutcome (shape blocks sectors logical) (now (image .entry)) .answer) ⌝ }
+    ensures { λ _. ⌜ now («bad_rule» .exit) ≡ ruleOf (repairOutcome (shape blocks sectors logical) (now (image .entry)) .answer) ⌝ }
+{
+    let mended = shellwaltz::repair(image, geometry(blocks, sectors, logical));
+    *words = mended.words;
+    *erasures = mended.erasures;
+    let given = mended.answer;
+    *bad_block = answers::bad_block(given);
+    *bad_rule = answers::bad_rule(given);
+    answers::number(given)
 }

@@ -1,4 +1,4 @@
--- K4: what the call for one step of a write or a release gives, for every input (FORMAT.md, Step by step). What is reported and left of the first
+-- K4: what the call for one step of a write, a release or a repair gives, for every input (FORMAT.md, Step by step). What is reported and left of the first
 -- steps stands with the whole calls (calls/specs/Calls).
 use mathlib.Core.List.{List}
 use Prim.Native.Nat.{ℕ}
@@ -7,8 +7,8 @@ use Rattle.image.specs.Words.{Image}
 use Rattle.flash.specs.declared.NextStep.the-variants.{Done}
 use Rattle.flash.specs.Steps.{stepAt}
 use Rattle.answers.specs.declared.Answer.{Answer}
-use Rattle.calls.specs.Refusals.{writeAnswer, releaseAnswer}
-use Rattle.calls.specs.Calls.{writeSteps, releaseSteps}
+use Rattle.calls.specs.Refusals.{writeAnswer, releaseAnswer, repairAnswer}
+use Rattle.calls.specs.Calls.{writeSteps, releaseSteps, repairSteps}
 use Rattle.stepwise.specs.declared.Stepped.{Stepped}
 
 -- what a refused one gives
@@ -22,3 +22,6 @@ module _ (geo : Geometry) (image : Image) where
 
   abbrev pub releaseStep : ℕ → ℕ → Stepped
   releaseStep n i = record { answer = releaseAnswer geo image n; next = stepAt (releaseSteps geo image n) i }
+
+  abbrev pub repairStep : ℕ → Stepped
+  repairStep i = record { answer = repairAnswer geo image; next = stepAt (repairSteps geo image) i }

@@ -1,11 +1,12 @@
-// K4: a write and a release step by step. One step of it is told from the image before the call, which stays as it is; or its first steps are
+// K4: a write, a release and a repair step by step. One step of it is told from the image before the call, which stays as it is; or its first steps are
 // carried out, by the code of the whole call. Each refuses as the whole call does, and a refused one has no step.
 ghost use mathlib.Core.Path.{_≡_};
-ghost use Rattle.calls.specs.Calls.{writeFirstOutcome, writtenFirst, releaseFirstOutcome, releasedFirst};
-ghost use Rattle.stepwise.specs.Calls.{noStep, writeStep, releaseStep};
+ghost use Rattle.calls.specs.Calls.{writeFirstOutcome, writtenFirst, releaseFirstOutcome, releasedFirst, repairFirstOutcome, repairedFirst};
+ghost use Rattle.stepwise.specs.Calls.{noStep, writeStep, releaseStep, repairStep};
 use answers::Answer;
 use calls::Outcome;
 use calls::ReleaseCourse;
+use calls::RepairCourse;
 use calls::WriteCourse;
 use flash::NextStep;
 use geometry::Geometry;
@@ -57,6 +58,19 @@ pub fn release_step(image: &[u32], geo: Geometry, n: u32, i: u32) -> Stepped
     }
 }
 
+// Step i, from 0, of a repair. Refuses 1, 4, 10 and 6.
+pub fn repair_step(image: &[u32], geo: Geometry, i: u32) -> Stepped
+    ensures { λ r. ⌜ r ≡ repairStep geo (now (image .entry)) i ⌝ }
+{
+    match calls::repair_course(image, geo) {
+        RepairCourse::Refused(answer) => refused(answer),
+        RepairCourse::Along(plan) => Stepped {
+            answer: Answer::Accepted,
+            next: repair_ahead::repairs::repair_step(image, geo, plan, i),
+        },
+    }
+}
+
 // Carries out the first steps of that write, `most` of them or all where there are fewer. Refuses 1, 2, 3, 4 and 6.
 pub fn write_first(image: &mut [u32], geo: Geometry, n: u32, buffer: &[u32], most: u32) -> Outcome
     ensures { λ r. ⌜ r ≡ writeFirstOutcome geo (now (image .entry)) n (now (buffer .entry)) most ⌝ }
@@ -73,4 +87,12 @@ pub fn release_first(image: &mut [u32], geo: Geometry, n: u32, most: u32) -> Out
 {
     let mut none = [0u16; 0];
     calls::release_within(image, geo, n, &mut none, most)
+}
+
+// Carries out the first steps of a repair, likewise. Refuses 1, 4, 10 and 6.
+pub fn repair_first(image: &mut [u32], geo: Geometry, most: u32) -> Outcome
+    ensures { λ r. ⌜ r ≡ repairFirstOutcome geo (now (image .entry)) most ⌝ }
+    ensures { λ _. ⌜ now (image .exit) ≡ repairedFirst geo (now (image .entry)) most ⌝ }
+{
+    calls::repair_within(image, geo, most)
 }

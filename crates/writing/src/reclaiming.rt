@@ -7,6 +7,7 @@ ghost use Rattle.image.specs.WellFormed.{ceiling};
 ghost use Rattle.flash.specs.Steps.{run, firstOf};
 ghost use Rattle.flash.specs.Writing.{EachInTurn, copying, erasesVictim};
 ghost use Rattle.flash.specs.Tables.{tableCopied};
+use blocks::lowest_free;
 use flash::steps::erase_block;
 use flash::steps::program_within;
 use geometry::Geometry;
@@ -18,7 +19,7 @@ use placing::place_over;
 use tables::note;
 use tables::word_at;
 
-// Goes through the slots of block v and places the live ones in slots 0, 1, .. of block t. The number of a slot is found in that slot when
+// Goes through the slots of block v and places each live one in the lowest free slot of block t. The number of a slot is found in that slot when
 // its turn comes, so it is not looked up again; it is noted where it is placed. Returns how many steps are left of those that the call may do:
 // with none left it stops, and nothing is said of the table then.
 pub fn copy_live(
@@ -33,24 +34,23 @@ pub fn copy_live(
     requires { ⌜ v < geo .blocks ⌝ }
     requires { ⌜ t < geo .blocks ⌝ }
     requires { ⌜ EachInTurn geo (now image) v t ⌝ }
-    ensures { λ r. ⌜ r ≡ most - length (copying geo (now (image .entry)) v t (d geo) .steps) ⌝ }
-    ensures { λ _. ⌜ now (image .exit) ≡ run geo (now (image .entry)) (firstOf most (copying geo (now (image .entry)) v t (d geo) .steps)) ⌝ }
+    ensures { λ r. ⌜ r ≡ most - length (copying geo (now (image .entry)) v t (d geo)) ⌝ }
+    ensures { λ _. ⌜ now (image .exit) ≡ run geo (now (image .entry)) (firstOf most (copying geo (now (image .entry)) v t (d geo))) ⌝ }
     ensures { λ r. ⌜ ((r ≡ 0 → ⊥) → now (table .exit) ≡ tableCopied geo (now (image .entry)) v t (now (table .entry)) (d geo)) ⌝ }
 {
     let d = geo.d();
     let mut left = most;
-    let mut taken = 0usize;
     for i in 0..d {
         match own_slot(image, geo, v, i) {
             Slot::Live(n) => {
                 let mut buffer = [0u32; 128];
                 copy_contents(image, geo, v, i, &mut buffer);
+                let taken = lowest_free(image, geo, t);
                 left = place_over(image, geo, n, &buffer, t, taken, Found::At(v, i), left);
                 if left == 0 {
                     return 0;
                 }
                 note(table, n, word_at(geo, t, taken));
-                taken += 1;
             }
             Slot::Free => {}
             Slot::Dead => {}

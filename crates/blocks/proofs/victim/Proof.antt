@@ -1,51 +1,22 @@
 -- `blocks::victim` meets its contract: of the blocks passed, `best` is the one that the definition leaves, and `most`
 -- its dead slots.
-use mathlib.Core.Bool.{true, false, _&&_}
 use mathlib.Core.Logic.{⊎-elim}
 use mathlib.Core.Path.{_≡_, refl, sym, ap, _∙_}
-use Prim.Native.Nat.{ℕ, _+_, _-_, _<_, _≤_}
+use Prim.Native.Nat.{_-_, _≤_}
 use native.Mathlib.Omega.{arith}
 use lib.Dec.{eqb}
 use borrow.Author.Needs.{needs}
 use borrow.Author.Tests.{lt-ltb, le-ltb}
 use Rattle.ranges.specs.Range.{bestBelow}
-use Rattle.ranges.proofs.Searches.{best-found, best-missing, best-beaten, best-stays}
-use Rattle.geometry.specs.declared.Geometry.{Geometry}
 use Rattle.image.specs.declared.Tally.{Tally}
-use Rattle.image.specs.Words.{Image}
 use Rattle.image.specs.Blocks.{full, deadSlots, preferred, victim}
 use Rattle.image.proofs.Reading.{full-count}
-use Rattle.blocks.proofs.Choosing.{more-dead, less-dead, same-dead}
+use Rattle.blocks.proofs.Choosing.{more-dead, less-dead, same-dead, Chosen, beaten, stays, found, missing}
 use Rattle.blocks.proofs.victim.Statement.{statement}
 use Rattle.blocks.proofs.victim.Tie as tie
 
--- the best of the blocks below b, and its dead slots where there is one
-record Chosen (geo : Geometry) (image : Image) (b best most : ℕ) : Type 0 where
-  best-is : best ≡ bestBelow (preferred geo image) b (full geo image)
-  most-is : best < b → most ≡ deadSlots geo image best
-
--- one block more: the four ways to go on
-module _ {geo : Geometry} {image : Image} {b best most : ℕ} (chosen : Chosen geo image b best most) where
-  beaten :
-      {m : ℕ} →
-      best < b →
-      full geo image b ≡ true →
-      preferred geo image b best ≡ true →
-      m ≡ deadSlots geo image b →
-      Chosen geo image (b + 1) b m
-  beaten l t p e = record { best-is = best-beaten _ _ _ (chosen .best-is) l t p; most-is = λ k. e }
-
-  stays : best < b → (full geo image b && preferred geo image b best) ≡ false → Chosen geo image (b + 1) best most
-  stays l f = record { best-is = best-stays _ _ _ (chosen .best-is) l f; most-is = λ k. chosen .most-is l }
-
-  found : {m : ℕ} → b ≤ best → full geo image b ≡ true → m ≡ deadSlots geo image b → Chosen geo image (b + 1) b m
-  found l t e = record { best-is = best-found _ _ _ (chosen .best-is) l t; most-is = λ k. e }
-
-  missing : {m : ℕ} → b ≤ best → full geo image b ≡ false → Chosen geo image (b + 1) (b + 1) m
-  missing l f = record { best-is = best-missing _ _ _ (chosen .best-is) l f; most-is = λ k. absurd (omega arith) }
-
 abbrev Inv-loop : tie.InvT-loop
-Inv-loop image geo blocks best₀ most₀ b₀ best most b = (b ≤ blocks) × Chosen geo image b best most
+Inv-loop image geo blocks best₀ most₀ b₀ best most b = (b ≤ blocks) × Chosen (preferred geo image) (full geo image) (deadSlots geo image) b best most
 
 abbrev μ-loop : tie.MeasureT-loop
 μ-loop image geo blocks best₀ most₀ b₀ best most b = blocks - b
@@ -66,7 +37,7 @@ cast-blocks c = omega arith
 
 loop-holds : tie.Need-loop-holds Inv-loop μ-loop
 unfolding bestBelow
-loop-holds c = (omega arith, record { best-is = refl; most-is = λ l. absurd (omega arith) })
+loop-holds c = (omega arith, record { best-is = refl; count-is = λ l. absurd (omega arith) })
 
 tally-requires : tie.Need-tally-requires Inv-loop μ-loop
 tally-requires c κs = search needs
@@ -95,23 +66,23 @@ loop-again c =
       omega arith,
       ⊎-elim
           (λ w.
-          let most = v .most-is (w .0 .taken) in
+          let most = v .count-is (w .0 .taken) in
           rw (w .3, w .4) (beaten v (w .0 .taken) (is-full ∙ w .1 .taken) (more-dead _ _ _ _ (omega arith)) dead))
           (⊎-elim
           (λ w.
-          let most = v .most-is (w .0 .taken) in
+          let most = v .count-is (w .0 .taken) in
           let less = rw (w .4 .ensures, w .5 .ensures) at (w .6 .taken) in
           rw (w .7, w .8)
           (beaten v (w .0 .taken) (is-full ∙ w .1 .taken) (same-dead _ _ _ _ (omega arith) ∙ lt-ltb _ _ less) (omega arith)))
           (⊎-elim
           (λ w.
-          let most = v .most-is (w .0 .taken) in
+          let most = v .count-is (w .0 .taken) in
           let worn = rw (w .4 .ensures, w .5 .ensures) at (w .6 .left) in
           rw (w .7, w .8)
           (stays v (w .0 .taken) (rw (is-full, w .1 .taken) (same-dead _ _ _ _ (omega arith) ∙ le-ltb _ _ worn))))
           (⊎-elim
           (λ w.
-          let most = v .most-is (w .0 .taken) in
+          let most = v .count-is (w .0 .taken) in
           rw (w .4, w .5) (stays v (w .0 .taken) (rw (is-full, w .1 .taken) (less-dead _ _ _ _ (omega arith)))))
           (⊎-elim
           (λ w. rw (w .2, w .3) (stays v (w .0 .taken) (rw (is-full, w .1 .left))))

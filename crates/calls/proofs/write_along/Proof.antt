@@ -4,7 +4,7 @@ use mathlib.Core.Bool.{false}
 use mathlib.Core.Path.{_≡_, refl, sym, ap, _∙_}
 use Prim.Native.Nat.{ℕ, _-_, _<_}
 use native.Mathlib.Omega.{arith}
-use lib.ListN.{length, length-take}
+use lib.ListN.{length}
 use lib.Seq.{take-nil}
 use borrow.Author.Needs.{needs}
 use Rattle.flash.specs.declared.Plan.the-variants.{Reclaim}
@@ -15,13 +15,13 @@ use Rattle.flash.specs.Tables.{tableReclaimedFirst, tableWritten}
 use Rattle.flash.specs.Writing.{mustReclaim, filling, reclaimingFirst, writing, planned}
 use Rattle.flash.proofs.Planned.{plan-says, writing-fills, writing-reclaims, table-fills, table-reclaims}
 use Rattle.flash.proofs.Counts.{filling-erases-nothing}
-use Rattle.flash.proofs.Parts.{Carried, steps-counted, erases-none-first}
+use Rattle.flash.proofs.Parts.{Carried, erases-none-first}
 use Rattle.answers.specs.declared.Answer.the-variants.{Accepted}
 use Rattle.answers.proofs.Acceptance.{if-accepted}
 use Rattle.calls.specs.Refusals.{writeAnswer}
 use Rattle.calls.specs.Calls.{writeSteps}
 use Rattle.calls.proofs.AcceptedCalls.{write-accepted, write-sized}
-use Rattle.calls.proofs.Changing.{left-alone, carried-out}
+use Rattle.calls.proofs.Changing.{progress-fits, left-alone, carried-out}
 use Rattle.calls.proofs.Courses.{write-course-refused, write-course-fill, write-course-reclaim}
 use Rattle.calls.proofs.write_along.Statement.{statement}
 use Rattle.calls.proofs.write_along.Tie as tie
@@ -80,24 +80,10 @@ reclaim-and-fill-requires c κs =
     (said .0, (said .1, (reclaiming-it found .1, (sized .0, sized .1))))
 
 sub-accepted-2 : tie.Need-sub-accepted-2
-sub-accepted-2 c =
-    let done = c .before .before .before .before .before .reclaim-and-fill .ensures .0 in
-    omega (arith, ap (λ (x : Progress). x .left) done)
+sub-accepted-2 c = progress-fits _ _ (c .before .before .before .before .before .reclaim-and-fill .ensures .0) .0
 
 sub-accepted-3 : tie.Need-sub-accepted-3
-sub-accepted-3 c =
-    let reclaimed = c .before .before .before .before .before .before in
-    let a = reclaimed .before .before .before .before .before .before .before .before .before .args in
-    let v = reclaimed .before .before .before .before .course2 .given .0 .0 in
-    let steps = reclaimingFirst (a .geo) (a .image .now) v (a .n) (a .buffer .now) in
-    let done = reclaimed .reclaim-and-fill .ensures .0 in
-    omega (
-      arith,
-      ap (λ (x : Progress). x .left) done,
-      ap (λ (x : Progress). x .erasures) done,
-      steps-counted (firstOf (a .most) steps),
-      length-take (a .most) steps,
-    )
+sub-accepted-3 c = progress-fits _ _ (c .before .before .before .before .before .before .reclaim-and-fill .ensures .0) .1
 
 accepted-requires-2 : tie.Need-accepted-requires-2
 accepted-requires-2 c κs = search needs

@@ -40,7 +40,7 @@ returns c =
     let says = both-pass _ _ (sym (c .before .before .confirmed .ensures) ∙ c .before .if2 .taken) in
     rw (c .d .ensures)
     (sym
-    (live-found geo (start .args .image .now) (sound-facts geo (start .args .image .now) (start .pre .1 .1)) (start .args .n) _ _
+    (live-found geo (start .args .image .now) (sound-facts geo (start .args .image .now) (start .pre .1 .1) .once) (start .args .n) _ _
     (record { block = ltb-true _ _ (says .0); slot-of = told-slot geo (start .pre .0 .limits) _; live = live-for _ _ (says .1) })))
 
 find-requires : tie.Need-find-requires

@@ -59,18 +59,18 @@ module _ (geo : Geometry) (v count : ℕ) (xs ys : List Step) (none : erasuresIn
 -- the copying of a reclaim, and the image that the whole of it leaves
 module _ (geo : Geometry) (image : Image) (v : ℕ) where
   abbrev copies : List Step
-  copies = copying geo image v (leastWornBlank geo image) (d geo) .steps
+  copies = copying geo image v (leastWornBlank geo image) (d geo)
 
   abbrev base : Image
-  base = run geo image (reclaiming geo image v)
+  base = run geo image (reclaiming geo image v (leastWornBlank geo image))
 
   into-blank :
       (most : ℕ) {t copied : ℕ} {now : Image} →
       t ≡ leastWornBlank geo image →
-      Carried geo image most (copying geo image v t (d geo) .steps) copied now →
+      Carried geo image most (copying geo image v t (d geo)) copied now →
       Carried geo image most copies copied now
   into-blank most {copied = copied} {now = now} e h =
-      subst (λ (x : ℕ). Carried geo image most (copying geo image v x (d geo) .steps) copied now) e h
+      subst (λ (x : ℕ). Carried geo image most (copying geo image v x (d geo)) copied now) e h
 
 module _ (geo : Geometry) (image : Image) (v : ℕ) (plan : Reclaims geo image v) where
   no-erasure : erasuresIn (copies geo image v) ≡ 0
@@ -105,7 +105,7 @@ module _ (geo : Geometry) (image : Image) (v : ℕ) (plan : Reclaims geo image v
         (first : Carried geo image most (copies geo image v) copied now) (some : copied ≡ 0 → ⊥)
         (second : Carried geo now copied (erasesVictim geo v count) erased after)
       where
-        reclaimed : Carried geo image most (reclaiming geo image v) erased after
+        reclaimed : Carried geo image most (reclaiming geo image v (leastWornBlank geo image)) erased after
         unfolding reclaiming
         reclaimed = rw (← counted) (and-then geo image most (copies geo image v) first (erasesVictim geo v count) second)
 
@@ -120,13 +120,13 @@ module _ (geo : Geometry) (image : Image) (v : ℕ) (plan : Reclaims geo image v
         no-erase-left : erased ≡ 0 → (record { left = 0; erasures = 1 } ≡ progress most all) × (after ≡ run geo image (firstOf most all))
         unfolding reclaimingFirst
         no-erase-left none =
-            let end = stopped geo image most (reclaiming geo image v) reclaimed none (filling geo (base geo image v) n ws) in
+            let end = stopped geo image most (reclaiming geo image v (leastWornBlank geo image)) reclaimed none (filling geo (base geo image v) n ws) in
             (ap₂ (λ (x y : ℕ). record { left = x; erasures = y }) (end .0) (sym one-erasure), end .1)
 
         -- some there too: the image is that of the whole reclaim
         module _ (more : erased ≡ 0 → ⊥) where
           whole : after ≡ (base geo image v)
-          whole = passed geo image most (reclaiming geo image v) reclaimed more
+          whole = passed geo image most (reclaiming geo image v (leastWornBlank geo image)) reclaimed more
 
           filled :
               {left : ℕ} {end : Image} →
@@ -135,7 +135,7 @@ module _ (geo : Geometry) (image : Image) (v : ℕ) (plan : Reclaims geo image v
           unfolding reclaimingFirst
           filled {left} {end} third =
               let behind : Carried geo after erased (filling geo (base geo image v) n ws) left end = rw (← whole) third in
-              let end = and-then geo image most (reclaiming geo image v) reclaimed (filling geo (base geo image v) n ws) behind in
+              let end = and-then geo image most (reclaiming geo image v (leastWornBlank geo image)) reclaimed (filling geo (base geo image v) n ws) behind in
               (ap₂ (λ (x y : ℕ). record { left = x; erasures = y }) (end .0) (sym one-erasure), end .1)
 
           noted-all :

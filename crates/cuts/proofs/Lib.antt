@@ -1,0 +1,11 @@
+pub mod Splits
+pub mod Stages
+pub mod Midway
+pub mod Passing
+pub mod Bare
+pub mod InCopy
+pub mod Copying
+pub mod Reclaims
+pub mod Writes
+pub mod Room
+pub mod FirstCut

@@ -1,0 +1,97 @@
+-- `repair_ahead::bounds::bounds_step` meets its contract: the blocks passed have too few steps, and the first that has enough decides.
+use mathlib.Core.List.{List, _++_}
+use mathlib.Core.Path.{_≡_, sym}
+use Prim.Native.Nat.{ℕ, _-_, _≤_}
+use native.Mathlib.Omega.{arith}
+use borrow.Author.Needs.{needs}
+use Rattle.ranges.specs.Range.{joinBelow}
+use Rattle.geometry.specs.declared.Geometry.{Geometry}
+use Rattle.image.specs.Words.{Image}
+use Rattle.flash.specs.declared.Step.{Step}
+use Rattle.flash.specs.Repairing.{setsLeast, setsGreatest, bounding}
+use Rattle.repair_ahead.specs.declared.Sought.the-variants.{Behind}
+use Rattle.repair_ahead.specs.Sought.{sought}
+use Rattle.repair_ahead.proofs.SoughtLaws.{none-passed, found-there, one-passed}
+use Rattle.repair_ahead.proofs.bounds.bounds_step.Statement.{statement}
+use Rattle.repair_ahead.proofs.bounds.bounds_step.Tie as tie
+
+-- the steps of a block
+abbrev steps : Geometry → Image → ℕ → List Step
+steps geo image b = setsLeast geo image b ++ setsGreatest geo image b
+
+abbrev Inv-loop : tie.InvT-loop
+Inv-loop image geo completes i blocks left₀ b₀ left b = (b ≤ blocks) × (sought (joinBelow b (steps geo image)) i ≡ Behind left)
+
+abbrev μ-loop : tie.MeasureT-loop
+μ-loop image geo completes i blocks left₀ b₀ left b = blocks - b
+
+cast-blocks : tie.Need-cast-blocks Inv-loop μ-loop
+cast-blocks c = search needs
+
+loop-holds : tie.Need-loop-holds Inv-loop μ-loop
+loop-holds c = let a = c .before .before .before .args in (omega arith, none-passed (steps (a .geo) (a .image .now)) (a .i))
+
+bound-in-block-requires : tie.Need-bound-in-block-requires Inv-loop μ-loop
+bound-in-block-requires c κs =
+    let start = c .before .before .before .before .before in
+    (start .pre .0, (start .pre .1 .0, (omega arith, start .pre .1 .1 .agrees _ (omega arith))))
+
+module _ (c : tie.After-bound-in-block Inv-loop μ-loop) where
+  abbrev turn : tie.At-loop Inv-loop μ-loop
+  turn = c .before .before
+
+  abbrev start : tie.Start Inv-loop μ-loop
+  start = turn .before .before .before .before
+
+  abbrev here : ℕ → List Step
+  here = steps (start .args .geo) (start .args .image .now)
+
+enum-known-step : tie.Need-enum-known-step Inv-loop μ-loop
+enum-known-step c = search needs
+
+returns : tie.Need-returns Inv-loop μ-loop
+unfolding bounding
+returns c =
+    let told = c .before .before .before in
+    found-there (here told) (start told .args .i) (turn told .loop .b) (turn told .loop .inv .1) (start told .args .geo .blocks) (omega arith)
+    (told .bound-in-block .ensures) (c .before .step .given .1)
+
+enum-known-k : tie.Need-enum-known-k Inv-loop μ-loop
+enum-known-k c = search needs
+
+add-b : tie.Need-add-b Inv-loop μ-loop
+add-b c = omega arith
+
+loop-less : tie.Need-loop-less Inv-loop μ-loop
+loop-less c = omega arith
+
+loop-again : tie.Need-loop-again Inv-loop μ-loop
+loop-again c =
+    let told = c .before .before .before in (
+      omega arith,
+      one-passed (here told) (start told .args .i) (turn told .loop .b) (turn told .loop .inv .1) (told .bound-in-block .ensures) (c .before .k .given .1),
+    )
+
+returns-2 : tie.Need-returns-2 Inv-loop μ-loop
+unfolding bounding
+returns-2 c =
+    let turn = c .before in
+    let end : turn .loop .b ≡ turn .before .before .before .before .args .geo .blocks = omega arith in
+    sym (rw end at (turn .loop .inv .1))
+
+pub bounds-step-spec : {M : Type 1} → statement M
+bounds-step-spec =
+    tie.close
+    (tie.spec
+    Inv-loop
+    μ-loop
+    cast-blocks
+    loop-holds
+    bound-in-block-requires
+    enum-known-step
+    returns
+    enum-known-k
+    add-b
+    loop-less
+    loop-again
+    returns-2)

@@ -1,0 +1,15 @@
+// One step of a repair, told from the image before it: nothing of the image is changed or copied (K4).
+pub mod bounds;
+pub mod counts;
+pub mod emptying;
+pub mod repairs;
+pub mod retires;
+pub mod single;
+
+use flash::Step;
+
+// Step i of a list that others follow: that step, or how far behind the list's end i lies.
+pub enum Sought {
+    Found(Step),
+    Behind(u32),
+}

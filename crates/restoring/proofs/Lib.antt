@@ -1,0 +1,3 @@
+pub mod LowWords
+pub mod Bounded
+pub mod Counted

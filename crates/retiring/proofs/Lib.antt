@@ -1,0 +1,3 @@
+pub mod Retired
+pub mod Kept
+pub mod CodeLaws
