@@ -264,8 +264,8 @@ fn repair_along(image: &mut [u32], geo: Geometry, course: RepairCourse, most: u3
     match course {
         RepairCourse::Refused(answer) => refused(answer),
         RepairCourse::Along(plan) => {
-            let done = repairing::repair_along(image, geo, plan, most);
-            accepted(most - done.left - done.erasures, done.erasures)
+            let mended = repairing::repair_along(image, geo, plan, most);
+            accepted(most - mended.left - mended.erasures, mended.erasures)
         }
     }
 }
