@@ -6,7 +6,7 @@
 
 enum { BLOCKS = 4, SECTORS = 8, LOGICAL = 16, SETTINGS = 7 };
 
-/* The mirror of the part. A driver loads it at the start, and carries each call out on the part as well: examples/driver.c. */
+/* The mirror of the part. A driver loads it at the start, and carries each call out on the part as well: examples/driver.h. */
 static uint32_t image[SHELLWALTZ_IMAGE_WORDS(BLOCKS, SECTORS)];
 /* Where each stored sector is, so that no call has to search for it. */
 static uint16_t table[LOGICAL];

@@ -1,4 +1,4 @@
-/* What examples/driver.c must print, from another source: the same calls and the same cuts by the second implementation, on an image and nothing
+/* What examples/array.c must print, from another source: the same calls and the same cuts by the second implementation, on an image and nothing
  * beside it. The counts are those that its calls for the first steps of a write, a release and a repair report.
  *
  *     driver_steps CALLS [each]
