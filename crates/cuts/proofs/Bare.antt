@@ -1,6 +1,6 @@
 -- K4: what an image is between an erasure and the programming of the block's count, and wherever the end of a reclaim is cut short. Assumes nothing.
 use mathlib.Core.Path.{_≡_, refl, sym, ap, _∙_}
-use mathlib.Core.Logic.{_≢_, _⊎_, inl, inr}
+use mathlib.Core.Logic.{_⊎_, inl, inr}
 use mathlib.Core.Bool.{true}
 use mathlib.Core.List.{List, [], _∷_}
 use Prim.Native.Nat.{ℕ, zero, suc, _+_, _^_, _<_}
@@ -13,9 +13,9 @@ use Rattle.geometry.specs.declared.Geometry.{Geometry}
 use Rattle.geometry.specs.Geometry.{d}
 use Rattle.geometry.specs.Places.{place, eraseWord}
 use Rattle.geometry.proofs.Laws.{low-in-block}
-use Rattle.image.specs.declared.Slot.the-variants.{Free, Live}
-use Rattle.image.specs.Words.{Image, Shaped, Words32, word, eraseCount, contents}
-use Rattle.image.specs.Slots.{slot, find, mapOf}
+use Rattle.image.specs.declared.Slot.the-variants.{Live}
+use Rattle.image.specs.Words.{Image, Shaped, Words32, word}
+use Rattle.image.specs.Slots.{slot, mapOf}
 use Rattle.image.specs.Blocks.{blank}
 use Rattle.image.specs.WellFormed.{ceiling, R6}
 use Rattle.image.proofs.Mending.{Mendable, sound-mendable}
@@ -60,36 +60,16 @@ module _ (geo : Geometry) (image : Image) (ready : Ready geo image) (v : ℕ) (b
   pub bare-words : Words32 bare
   bare-words = rw bare-is at (wipe.wiped-words geo image ready v ones block small)
 
-  -- the block has no count, and the others theirs
-  pub bare-count : eraseCount geo bare v ≡ ones
-  bare-count = rw bare-is at (wipe.wiped-count geo image ready v ones block small)
-
-  pub bare-count-other : (c : ℕ) → c ≢ v → eraseCount geo bare c ≡ eraseCount geo image c
-  bare-count-other = rw bare-is at (wipe.wiped-count-other geo image ready v ones block small)
-
-  -- its slots are free, and those of the others what they were
-  pub bare-free : (j : ℕ) → j < d geo → slot geo bare v j ≡ Free
-  bare-free = rw bare-is at (wipe.wiped-free geo image ready v ones block small)
-
-  pub bare-slot : (c j : ℕ) → c < geo .blocks → c ≢ v → j < d geo → slot geo bare c j ≡ slot geo image c j
-  bare-slot = rw bare-is at (wipe.wiped-slot geo image ready v ones block small)
-
-  pub bare-contents : (c j : ℕ) → c < geo .blocks → c ≢ v → j < d geo → contents geo bare c j ≡ contents geo image c j
-  bare-contents = rw bare-is at (wipe.wiped-contents geo image ready v ones block small)
-
   pub bare-blank : blank geo bare v ≡ true
   bare-blank = rw bare-is at (wipe.wiped-blank geo image ready v ones block small)
 
   pub bare-spare : R6 geo bare ≡ true
   bare-spare = blank-spare geo bare v block bare-blank
 
-  -- where none of its slots was live, every number is found where it was, and the image can be mended
+  -- where none of its slots was live, the image can be mended and has the map that it had
   module _ (none-live : (j n : ℕ) → j < d geo → slot geo image v j ≡ Live n → ⊥) where
     pub bare-mendable : Mendable geo bare
     bare-mendable = rw bare-is at (wipe.wiped-mendable geo image ready v ones block small none-live (inr refl))
-
-    pub bare-found : (n : ℕ) → find geo bare n ≡ find geo image n
-    bare-found = rw bare-is at (wipe.wiped-found geo image ready v ones block small none-live)
 
     pub bare-map : (n : ℕ) → mapOf geo bare n ≡ mapOf geo image n
     bare-map = rw bare-is at (wipe.wiped-map geo image ready v ones block small none-live)

@@ -20,7 +20,7 @@ use Rattle.image.specs.Slots.{slot, isFree, isFaulty, isLive, find, mapOf}
 use Rattle.image.specs.Blocks.{blank, full, freeSlots, liveSlots}
 use Rattle.image.specs.WellFormed.{R6}
 use Rattle.image.proofs.Own.{Once}
-use Rattle.image.proofs.Alike.{free-slots-alike, live-slots-alike}
+use Rattle.image.proofs.Alike.{live-slots-alike}
 use Rattle.image.proofs.Facts.{Sound}
 use Rattle.image.proofs.Finding.{found-live, find-same, map-at, map-same}
 use Rattle.image.proofs.Mending.{Mendable}
@@ -99,9 +99,6 @@ module _ (geo : Geometry) (image now : Image) (b i : ℕ) (s : Sound geo image) 
 -- ---- the slots of each block
 
 module _ (geo : Geometry) (image now : Image) (b i : ℕ) (kinds : Taken geo image (slot geo now) b i) where
-  pub free-elsewhere : (c : ℕ) → c < geo .blocks → c ≢ b → freeSlots geo now c ≡ freeSlots geo image c
-  free-elsewhere c l other = free-slots-alike geo image now c (λ j h. kinds .free-same c j l h (λ x y. other x))
-
   -- one fewer is free in the block of the slot that was taken
   pub one-taken : b < geo .blocks → i < d geo → slot geo image b i ≡ Free → freeSlots geo now b + 1 ≡ freeSlots geo image b
   one-taken block slot-of free =
@@ -203,10 +200,7 @@ module _
         go (inr both) (yes x) = rw x (both .0 ∙ sym (map-at geo image n c j found ∙ ap some same))
         go (inr both) (no x) = both .1 m x
 
-    -- every other block has the free slots that it had, and so is full or blank as it was
-    pub during-free : (c : ℕ) → c < geo .blocks → c ≢ b → freeSlots geo now c ≡ freeSlots geo image c
-    during-free c l x = ⊎-elim (λ e. ap (λ (y : Image). freeSlots geo y c) e) (λ kinds. free-elsewhere geo image now b i kinds c l x) during-kinds
-
+    -- every other block is full or blank as it was
     pub during-full : (c : ℕ) → c < geo .blocks → c ≢ b → full geo now c ≡ full geo image c
     during-full c l x = ⊎-elim (λ e. ap (λ (y : Image). full geo y c) e) (λ kinds. full-as-before geo image now b i kinds c l x) during-kinds
 

@@ -40,10 +40,7 @@ module _ (geo : Geometry) (P : Image → Type 0) where
   along-none image p zero = p
   along-none image p (suc j) = p
 
-  -- it holds at the start and at the end
-  pub along-start : (image : Image) (steps : List Step) → Along geo P image steps → P image
-  along-start image steps a = rw (run-none geo image) at (a 0)
-
+  -- it holds at the end
   pub along-end : (image : Image) (steps : List Step) → Along geo P image steps → P (run geo image steps)
   along-end image steps a = rw (take-all (length steps) steps (omega arith)) at (a (length steps))
 

@@ -19,7 +19,7 @@ use Rattle.geometry.proofs.Laws.{logical-small}
 use Rattle.image.specs.declared.Slot.{Slot}
 use Rattle.image.specs.declared.Slot.the-variants.{Free, Live}
 use Rattle.image.specs.declared.Found.the-variants.{At}
-use Rattle.image.specs.Words.{Image, leastMapped, greatestMapped, mapBit, contents}
+use Rattle.image.specs.Words.{Image, leastMapped, greatestMapped, mapBit}
 use Rattle.image.specs.Slots.{slot, isFree, isLiveFor, liveIn, find, mapOf}
 use Rattle.image.specs.Blocks.{full, freeSlots}
 use Rattle.image.proofs.Own.{live-number}
@@ -86,18 +86,6 @@ module _
 
     pub full-as-before : (c : ℕ) → c < geo .blocks → c ≢ b → full geo after c ≡ full geo image c
     full-as-before = rules.full-as-before geo image after b i taken-kinds
-
-    -- a slot that is live for another number is so after, and keeps its contents
-    pub live-after :
-        (m c j : ℕ) →
-        c < geo .blocks →
-        j < d geo →
-        m ≢ n →
-        slot geo image c j ≡ Live m →
-        (slot geo after c j ≡ Live m) × (contents geo after c j ≡ contents geo image c j)
-    live-after m c j l h other e =
-        let still = rules.live-still geo image after n b i s free change m c j l h other e in
-        (still .0, p .contents-other c j l h (still .1))
 
     -- ---- the rules
 

@@ -10,7 +10,7 @@ use Rattle.geometry.specs.declared.Geometry.{Geometry}
 use Rattle.geometry.specs.Geometry.{d}
 use Rattle.image.specs.Words.{Image, mapBit, entry}
 use Rattle.image.specs.Slots.{isCompleteFor, numberIn, slotOf, hasComplete, superseded, ownSlot, slot, isFree, isLive}
-use Rattle.image.specs.Blocks.{blank, full, isOpen, freeSlots, liveSlots, lowestFree, lowestOpen}
+use Rattle.image.specs.Blocks.{blank, full, isOpen, freeSlots, liveSlots, lowestOpen}
 use Rattle.image.specs.WellFormed.{R6}
 
 module _ (geo : Geometry) (image after : Image) where
@@ -66,10 +66,6 @@ module _ (geo : Geometry) (image after : Image) where
     pub full-alike : full geo after b ≡ full geo image b
     unfolding full
     full-alike = ap not (any-ext (d geo) frees)
-
-    pub lowest-free-alike : lowestFree geo after b ≡ lowestFree geo image b
-    unfolding lowestFree
-    lowest-free-alike = best-ext (d geo) frees (λ i r l m. refl)
 
   -- the same slots are live
   pub live-slots-alike :

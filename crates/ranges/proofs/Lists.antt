@@ -7,7 +7,7 @@ use native.Mathlib.Nat.{le-step, lt-suc-self}
 use native.Mathlib.Omega.{arith}
 use lib.ListN.{length, getD, length-append, List·getD-append}
 use lib.Seq.{getD-at}
-use Rattle.ranges.specs.Range.{sumBelow, listBelow, joinBelow}
+use Rattle.ranges.specs.Range.{listBelow, joinBelow}
 use Rattle.ranges.proofs.Tests.{below-suc}
 
 pub list-length : {A : Type 0} (m : ℕ) (f : ℕ → A) → length (listBelow m f) ≡ m
@@ -43,11 +43,6 @@ pub join-ext : {A : Type 0} (m : ℕ) {f g : ℕ → List A} → ((i : ℕ) → 
 unfolding joinBelow
 join-ext zero h = refl
 join-ext (suc m) h = ap₂ _++_ (join-ext m (λ i l. h i (le-step l))) (h m (lt-suc-self m))
-
-pub join-length : {A : Type 0} (m : ℕ) (f : ℕ → List A) → length (joinBelow m f) ≡ sumBelow m (λ i. length (f i))
-unfolding joinBelow sumBelow
-join-length zero f = refl
-join-length (suc m) f = length-append (joinBelow m f) (f m) ∙ omega (arith, join-length m f)
 
 -- empty ones
 pub join-none : {A : Type 0} (m : ℕ) {f : ℕ → List A} → ((k : ℕ) → k < m → f k ≡ []) → joinBelow m f ≡ []

@@ -10,7 +10,7 @@ use Rattle.ranges.specs.Range.{joinBelow}
 use Rattle.ranges.proofs.Tests.{below-suc}
 use Rattle.flash.specs.declared.Step.{Step}
 use Rattle.flash.specs.declared.NextStep.{NextStep}
-use Rattle.flash.specs.declared.NextStep.the-variants.{Next, Done}
+use Rattle.flash.specs.declared.NextStep.the-variants.{Next}
 use Rattle.flash.specs.Steps.{stepAt}
 use Rattle.repair_ahead.specs.declared.Sought.{Sought}
 use Rattle.repair_ahead.specs.declared.Sought.the-variants.{Found, Behind}
@@ -105,12 +105,6 @@ step-both [] ys i = refl
 step-both (x ∷ xs) ys zero = refl
 step-both (x ∷ xs) ys (suc i) = step-both xs ys i
 
-pub step-alone : (xs : List Step) (i : ℕ) → stepAt xs i ≡ nextOr (sought xs i) (λ k. Done)
-unfolding sought stepAt
-step-alone [] i = refl
-step-alone (x ∷ xs) zero = refl
-step-alone (x ∷ xs) (suc i) = step-alone xs i
-
 module _ (xs : List Step) (i : ℕ) {r : Sought} (is : r ≡ sought xs i) where
   -- found in the first of two lists
   pub step-found : (ys : List Step) {s : Step} → r ≡ Found s → Next s ≡ stepAt (xs ++ ys) i
@@ -119,11 +113,3 @@ module _ (xs : List Step) (i : ℕ) {r : Sought} (is : r ≡ sought xs i) where
   -- and behind it
   pub step-behind : (ys : List Step) {k : ℕ} → r ≡ Behind k → stepAt ys k ≡ stepAt (xs ++ ys) i
   step-behind ys e = sym (step-both xs ys i ∙ ap (λ (q : Sought). nextOr q (stepAt ys)) (sym is ∙ e))
-
-  -- in the last list
-  pub step-last : {s : Step} → r ≡ Found s → Next s ≡ stepAt xs i
-  step-last e = sym (step-alone xs i ∙ ap (λ (q : Sought). nextOr q (λ k. Done)) (sym is ∙ e))
-
-  -- and behind that
-  pub step-none : {k : ℕ} → r ≡ Behind k → Done ≡ stepAt xs i
-  step-none e = sym (step-alone xs i ∙ ap (λ (q : Sought). nextOr q (λ k. Done)) (sym is ∙ e))

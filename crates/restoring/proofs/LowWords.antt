@@ -2,7 +2,7 @@
 -- Assumes nothing.
 use mathlib.Core.Path.{_≡_, refl, sym, ap, ap₂, _∙_}
 use mathlib.Core.Logic.{_⊎_, inl, inr, ⊎-elim}
-use mathlib.Core.Bool.{Bool, true, false, not, cond, _&&_}
+use mathlib.Core.Bool.{Bool, true, false, cond, _&&_}
 use mathlib.Core.List.{List, [], _∷_}
 use Prim.Native.Nat.{ℕ, _*_, _%_, _^_, _<_, _≤_}
 use native.Mathlib.Omega.{arith}
@@ -21,14 +21,14 @@ use Rattle.image.specs.declared.Slot.the-variants.{Live}
 use Rattle.image.specs.declared.Found.the-variants.{At}
 use Rattle.image.specs.Words.{Image, Shaped, Words32, word, eraseCount, leastMapped, greatestMapped, freeMap, mapBit, entry, contents}
 use Rattle.image.specs.Slots.{slot, isFree, isLive, isFaulty, isLiveFor, liveIn, find, mapOf}
-use Rattle.image.specs.Blocks.{blank, full, isOpen, freeSlots, liveSlots, lowestOpen}
-use Rattle.image.specs.WellFormed.{ceiling, R2, R6, NoneSuperseded}
+use Rattle.image.specs.Blocks.{blank, full, freeSlots, liveSlots}
+use Rattle.image.specs.WellFormed.{ceiling, R2, NoneSuperseded}
 use Rattle.image.specs.Mending.{countUnset, leastBound}
 use Rattle.image.proofs.Reading.{word-inside}
 use Rattle.image.proofs.Places.{apart, contents-at, contents-are, contents-long}
 use Rattle.image.proofs.Facts.{map-agrees}
 use Rattle.image.proofs.Finding.{map-same}
-use Rattle.image.proofs.Alike.{superseded-alike, slot-alike, free-slots-alike, blank-alike, full-alike, live-slots-alike, R6-alike, lowest-open-alike}
+use Rattle.image.proofs.Alike.{superseded-alike, slot-alike, free-slots-alike, blank-alike, full-alike, live-slots-alike}
 use Rattle.image.proofs.Mending.{Mendable, unset-count}
 use Rattle.flash.specs.declared.Step.{Step}
 use Rattle.flash.specs.declared.Step.the-variants.{Program}
@@ -191,20 +191,11 @@ module _ (geo : Geometry) (image now : Image) (low : LowOnly geo image now) wher
   pub blank-kept : (c : ℕ) → c < geo .blocks → blank geo now c ≡ blank geo image c
   blank-kept c l = blank-alike geo image now c (frees c l)
 
-  pub open-kept : (c : ℕ) → c < geo .blocks → isOpen geo now c ≡ isOpen geo image c
-  open-kept c l = ap₂ (λ (x y : Bool). not x && not y) (blank-kept c l) (full-kept c l)
-
   pub free-slots-kept : (c : ℕ) → c < geo .blocks → freeSlots geo now c ≡ freeSlots geo image c
   free-slots-kept c l = free-slots-alike geo image now c (frees c l)
 
   pub live-slots-kept : (c : ℕ) → c < geo .blocks → liveSlots geo now c ≡ liveSlots geo image c
   live-slots-kept c l = live-slots-alike geo image now c (λ j h. ap isLive (low .slots c j l h))
-
-  pub lowest-open-kept : lowestOpen geo now ≡ lowestOpen geo image
-  lowest-open-kept = lowest-open-alike geo image now blank-kept full-kept
-
-  pub R6-kept : R6 geo now ≡ R6 geo image
-  R6-kept = R6-alike geo image now blank-kept
 
   pub current-kept : NoneSuperseded geo image → NoneSuperseded geo now
   current-kept none = record { none = λ c j l h. superseded-alike geo image now (low .entries) c j l h ∙ none .none c j l h }

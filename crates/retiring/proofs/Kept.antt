@@ -1,5 +1,5 @@
 -- (i) of a repair (K4): what every image on the way has in common with the one before: the slots that are free, live or faulty, and so the map, the blocks
--- that are blank, full or open, and that it can be mended. Assumes nothing.
+-- that are blank or full, and that it can be mended. Assumes nothing.
 use mathlib.Core.Path.{_≡_, refl, sym, ap, ap₂, _∙_}
 use mathlib.Core.Logic.{inl, inr, ⊎-elim}
 use mathlib.Core.Bool.{Bool, _&&_}
@@ -16,15 +16,14 @@ use Rattle.image.specs.declared.Slot.{Slot}
 use Rattle.image.specs.declared.Slot.the-variants.{Live, Dead, Superseded}
 use Rattle.image.specs.Words.{Image}
 use Rattle.image.specs.Slots.{slot, isFree, isLive, isFaulty, isLiveFor, find, mapOf}
-use Rattle.image.specs.Blocks.{blank, full, freeSlots, liveSlots, lowestFree, lowestOpen}
+use Rattle.image.specs.Blocks.{blank, full, freeSlots, liveSlots}
 use Rattle.image.specs.WellFormed.{R6}
 use Rattle.image.specs.Mending.{countUnset, leastBound}
 use Rattle.image.proofs.Own.{Once}
-use Rattle.image.proofs.Alike.{free-slots-alike, blank-alike, full-alike, lowest-free-alike, live-slots-alike, R6-alike, any-open-alike, lowest-open-alike}
+use Rattle.image.proofs.Alike.{free-slots-alike, blank-alike, full-alike, live-slots-alike, R6-alike}
 use Rattle.image.proofs.Facts.{live-for, live-is-for, free-is}
 use Rattle.image.proofs.Finding.{find-same, map-same}
 use Rattle.image.proofs.Mending.{Mendable}
-use Rattle.flash.specs.Writing.{anyOpen}
 use Rattle.retiring.proofs.Retired.{Retired}
 
 module _ (geo : Geometry) (image now : Image) (r : Retired geo image now) where
@@ -59,9 +58,6 @@ module _ (geo : Geometry) (image now : Image) (r : Retired geo image now) where
     pub full-same : full geo now b ≡ full geo image b
     full-same = full-alike geo image now b (λ i h. free-same b i l h)
 
-    pub lowest-free-same : lowestFree geo now b ≡ lowestFree geo image b
-    lowest-free-same = lowest-free-alike geo image now b (λ i h. free-same b i l h)
-
     unset-same : countUnset geo now b ≡ countUnset geo image b
     unfolding countUnset
     unset-same = ap₂ _&&_ blank-same (ap (λ (w : ℕ). eqb w ones) (r .counts b l))
@@ -71,12 +67,6 @@ module _ (geo : Geometry) (image now : Image) (r : Retired geo image now) where
 
   pub R6-same : R6 geo now ≡ R6 geo image
   R6-same = R6-alike geo image now blank-same
-
-  pub any-open-same : anyOpen geo now ≡ anyOpen geo image
-  any-open-same = any-open-alike geo image now blank-same full-same
-
-  pub lowest-open-same : lowestOpen geo now ≡ lowestOpen geo image
-  lowest-open-same = lowest-open-alike geo image now blank-same full-same
 
   -- ---- of an image that can be mended: it still can, and its map is the same
 
