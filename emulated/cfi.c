@@ -44,7 +44,8 @@ uint32_t cfi_read(size_t place)
     return *word_at(place);
 }
 
-/* A part clears bits and sets none; the emulator stores the word as it is. So a bit that would have to be set is refused here. */
+/* A part clears bits and sets none; the emulator stores the word as it is. So a bit that would have to be set is refused here. The emulator takes
+ * all 32 bits after one command: docs/EMULATED.md says what to mind where your part takes fewer. */
 int cfi_program(size_t place, uint32_t word)
 {
     if (word & ~cfi_read(place))

@@ -7,8 +7,10 @@ static int takes(const char **text, const char *word)
     for (; *word; at++, word++)
         if (*at != *word)
             return 0;
-    *text = at + (*at == ' ');
-    return *at == ' ';
+    if (*at != ' ')
+        return 0;
+    *text = at + 1;
+    return 1;
 }
 
 static uint32_t take_number(const char **text)
@@ -27,7 +29,7 @@ static void skip_line(const char **text)
     *text += **text == '\n';
 }
 
-/* Of the line that the text begins with, or the rest of one. */
+/* Whether the first line of the text ends in " done". */
 static int is_done(const char *text)
 {
     const char *end = text;
@@ -43,11 +45,11 @@ static void take_held(struct log *log, const char **text)
     log->is_cut = 0;
 }
 
-/* `stores` is whether the call is a write. Where not even its number is all there, it was not begun. */
+/* `stores` is whether the call is a write. Where not even its number, from 1 on, is all there, it was not begun. */
 static void take_call(struct log *log, const char **text, int stores)
 {
     uint32_t number = take_number(text), call = take_number(text);
-    if ((*text)[-1] != ' ')
+    if ((*text)[-1] != ' ' || call == 0)
         return;
     log->last_call = call;
     log->number = number;

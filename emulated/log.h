@@ -5,7 +5,7 @@
  *   held N A0 A1 ..        the last call was number N, and sector n holds what call An wrote; 0: nothing
  *   format ..              the part is formatted
  *   start ..               the part is read, checked and, where need be, repaired
- *   write n N [reclaim] .. call N writes sector n; a block is reclaimed first
+ *   write n N [reclaim] .. call N writes sector n; with `reclaim`, a block is reclaimed first
  *   release n N ..         call N releases sector n
  *   FAILED: ..             what the program did not expect, in words
  *

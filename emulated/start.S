@@ -12,6 +12,7 @@
     .globl start
 start:
     cli
+    cld
     mov $tables, %eax
     mov %eax, %cr3
     mov %cr4, %eax
