@@ -1,3 +1,4 @@
 pub mod Sought
 pub mod Bounds
 pub mod Emptying
+pub mod Parts

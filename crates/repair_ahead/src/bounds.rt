@@ -4,10 +4,10 @@ ghost use mathlib.Core.Path.{_≡_};
 ghost use Prim.Native.Nat.{_<_};
 ghost use Rattle.geometry.specs.Geometry.{Limits};
 ghost use Rattle.image.specs.Words.{Shaped};
-ghost use Rattle.image.specs.WellFormed.{R2, MapsAgree};
+ghost use Rattle.image.specs.WellFormed.{R2};
 ghost use Rattle.naming.specs.Completes.{Completes};
 ghost use Rattle.flash.specs.Placing.{liveBounds};
-ghost use Rattle.flash.specs.Repairing.{setsLeast, setsGreatest, bounding};
+ghost use Rattle.flash.specs.Repairing.{setsLeast, setsGreatest};
 ghost use Rattle.repair_ahead.specs.Bounds.{askedBounds, boundSteps};
 ghost use Rattle.repair_ahead.specs.Sought.{sought};
 use super::Sought;
@@ -87,7 +87,7 @@ fn two_steps(
 }
 
 // Step i of block b in (ii): where it is full, each of words 1 and 2 that is not programmed.
-fn bound_in_block(image: &[u32], geo: Geometry, completes: &[u32], b: usize, i: u32) -> Sought
+pub fn bound_in_block(image: &[u32], geo: Geometry, completes: &[u32], b: usize, i: u32) -> Sought
     requires { ⌜ Shaped geo (now image) ⌝ }
     requires { ⌜ Completes geo (now image) (now completes) ⌝ }
     requires { ⌜ b < geo .blocks ⌝ }
@@ -101,26 +101,4 @@ fn bound_in_block(image: &[u32], geo: Geometry, completes: &[u32], b: usize, i: 
         return two_steps(geo, b, least_unset, greatest_unset, asked, i);
     }
     Sought::Behind(i)
-}
-
-// Step i of (ii): the blocks in turn.
-pub fn bounds_step(image: &[u32], geo: Geometry, completes: &[u32], i: u32) -> Sought
-    requires { ⌜ Shaped geo (now image) ⌝ }
-    requires { ⌜ Completes geo (now image) (now completes) ⌝ }
-    requires { ⌜ MapsAgree geo (now image) ⌝ }
-    ensures { λ r. ⌜ r ≡ sought (bounding geo (now (image .entry))) i ⌝ }
-{
-    let blocks = geo.blocks as usize;
-    let mut left = i;
-    for b in 0..blocks {
-        match bound_in_block(image, geo, completes, b, left) {
-            Sought::Found(step) => {
-                return Sought::Found(step);
-            }
-            Sought::Behind(k) => {
-                left = k;
-            }
-        }
-    }
-    Sought::Behind(left)
 }

@@ -2,8 +2,8 @@ ghost use mathlib.Core.Bool.{true};
 ghost use mathlib.Core.Path.{_≡_};
 ghost use Prim.Native.Nat.{_<_};
 ghost use Rattle.image.specs.Words.{Shaped};
-ghost use Rattle.image.specs.WellFormed.{R2, MapsAgree};
-ghost use Rattle.flash.specs.Repairing.{setsCount, counting};
+ghost use Rattle.image.specs.WellFormed.{R2};
+ghost use Rattle.flash.specs.Repairing.{setsCount};
 ghost use Rattle.repair_ahead.specs.Sought.{sought};
 use super::Sought;
 use super::single::single_step;
@@ -12,7 +12,7 @@ use geometry::Geometry;
 use restoring::largest_other;
 
 // Step i of block b in (iii): its count, if it was not given one. The other blocks are asked only then.
-fn count_in_block(image: &[u32], geo: Geometry, b: usize, i: u32) -> Sought
+pub fn count_in_block(image: &[u32], geo: Geometry, b: usize, i: u32) -> Sought
     requires { ⌜ Shaped geo (now image) ⌝ }
     requires { ⌜ b < geo .blocks ⌝ }
     requires { ⌜ R2 geo (now image) b ≡ true ⌝ }
@@ -22,25 +22,4 @@ fn count_in_block(image: &[u32], geo: Geometry, b: usize, i: u32) -> Sought
         return single_step(true, geo.start(b), largest_other(image, geo, b), i);
     }
     Sought::Behind(i)
-}
-
-// Step i of (iii): the blocks in turn.
-pub fn count_step(image: &[u32], geo: Geometry, i: u32) -> Sought
-    requires { ⌜ Shaped geo (now image) ⌝ }
-    requires { ⌜ MapsAgree geo (now image) ⌝ }
-    ensures { λ r. ⌜ r ≡ sought (counting geo (now (image .entry))) i ⌝ }
-{
-    let blocks = geo.blocks as usize;
-    let mut left = i;
-    for b in 0..blocks {
-        match count_in_block(image, geo, b, left) {
-            Sought::Found(step) => {
-                return Sought::Found(step);
-            }
-            Sought::Behind(k) => {
-                left = k;
-            }
-        }
-    }
-    Sought::Behind(left)
 }

@@ -7,11 +7,10 @@ ghost use Rattle.naming.specs.Completes.{Completes};
 ghost use Rattle.flash.specs.Steps.{stepAt};
 ghost use Rattle.flash.specs.Repairing.{bounding, counting, emptying, settled, bounded, counted, repairing, lacksRoom, victimWorn};
 ghost use Rattle.repairing.specs.Planned.{repairPlanned};
+use super::Part;
 use super::Sought;
-use super::bounds::bounds_step;
-use super::counts::count_step;
 use super::emptying::empty_step;
-use super::retires::retire_step;
+use super::parts::part_step;
 use flash::NextStep;
 use geometry::Geometry;
 use naming::mark_all_completes;
@@ -57,7 +56,7 @@ fn step_from_three(
     requires { ⌜ victimWorn geo (now image) ≡ false ⌝ }
     ensures { λ r. ⌜ r ≡ stepAt (counting geo (bounded geo (now (image .entry))) ++ emptying geo (counted geo (now (image .entry)))) i ⌝ }
 {
-    match count_step(image, geo, i) {
+    match part_step(Part::Counts, image, geo, completes, i) {
         Sought::Found(step) => NextStep::Next(step),
         Sought::Behind(k) => step_of_four(image, geo, completes, plan, k),
     }
@@ -84,7 +83,7 @@ fn step_from_two(
         ++ (counting geo (bounded geo (now (image .entry))) ++ emptying geo (counted geo (now (image .entry)))))
         i ⌝ }
 {
-    match bounds_step(image, geo, completes, i) {
+    match part_step(Part::Bounds, image, geo, completes, i) {
         Sought::Found(step) => NextStep::Next(step),
         Sought::Behind(k) => step_from_three(image, geo, completes, plan, k),
     }
@@ -101,7 +100,7 @@ pub fn repair_step(image: &[u32], geo: Geometry, plan: RepairPlan, i: u32) -> Ne
 {
     let mut completes = [0xFFFF_FFFFu32; 124];
     mark_all_completes(image, geo, &mut completes);
-    match retire_step(image, geo, &completes, i) {
+    match part_step(Part::Retires, image, geo, &completes, i) {
         Sought::Found(step) => NextStep::Next(step),
         Sought::Behind(k) => step_from_two(image, geo, &completes, plan, k),
     }

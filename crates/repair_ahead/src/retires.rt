@@ -4,7 +4,7 @@ ghost use Rattle.ranges.specs.Range.{joinBelow};
 ghost use Rattle.geometry.specs.Geometry.{d};
 ghost use Rattle.image.specs.Words.{Shaped};
 ghost use Rattle.naming.specs.Completes.{Completes};
-ghost use Rattle.flash.specs.Repairing.{clearsSlot, clearing};
+ghost use Rattle.flash.specs.Repairing.{clearsSlot};
 ghost use Rattle.repair_ahead.specs.Sought.{sought};
 use super::Sought;
 use super::single::single_step;
@@ -33,7 +33,7 @@ fn retire_slot(
 }
 
 // Step i of block b in (i): its slots in turn.
-fn retire_in_block(image: &[u32], geo: Geometry, completes: &[u32], b: usize, i: u32) -> Sought
+pub fn retire_in_block(image: &[u32], geo: Geometry, completes: &[u32], b: usize, i: u32) -> Sought
     requires { ⌜ Shaped geo (now image) ⌝ }
     requires { ⌜ Completes geo (now image) (now completes) ⌝ }
     requires { ⌜ b < geo .blocks ⌝ }
@@ -43,27 +43,6 @@ fn retire_in_block(image: &[u32], geo: Geometry, completes: &[u32], b: usize, i:
     let mut left = i;
     for slot in 0..d {
         match retire_slot(image, geo, completes, b, slot, left) {
-            Sought::Found(step) => {
-                return Sought::Found(step);
-            }
-            Sought::Behind(k) => {
-                left = k;
-            }
-        }
-    }
-    Sought::Behind(left)
-}
-
-// Step i of (i): the blocks in turn.
-pub fn retire_step(image: &[u32], geo: Geometry, completes: &[u32], i: u32) -> Sought
-    requires { ⌜ Shaped geo (now image) ⌝ }
-    requires { ⌜ Completes geo (now image) (now completes) ⌝ }
-    ensures { λ r. ⌜ r ≡ sought (clearing geo (now (image .entry))) i ⌝ }
-{
-    let blocks = geo.blocks as usize;
-    let mut left = i;
-    for b in 0..blocks {
-        match retire_in_block(image, geo, completes, b, left) {
             Sought::Found(step) => {
                 return Sought::Found(step);
             }

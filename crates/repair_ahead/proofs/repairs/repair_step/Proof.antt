@@ -4,8 +4,9 @@ use native.Mathlib.Omega.{arith}
 use borrow.Author.Needs.{needs}
 use Rattle.geometry.proofs.Laws.{logical-small}
 use Rattle.rules.proofs.MarkLaws.{marks-start}
-use Rattle.flash.specs.Repairing.{repairing}
+use Rattle.flash.specs.Repairing.{clearing, repairing}
 use Rattle.repair_ahead.proofs.SoughtLaws.{step-found, step-behind}
+use Rattle.repair_ahead.proofs.WholeLaws.{maps-agree}
 use Rattle.repair_ahead.proofs.repairs.repair_step.Statement.{statement}
 use Rattle.repair_ahead.proofs.repairs.repair_step.Tie as tie
 
@@ -17,11 +18,13 @@ mark-all-completes-requires c κs =
     let start = c .before .before in
     (start .pre .0, marks-start _ _ (omega (arith, logical-small (start .args .geo) (start .pre .0 .limits))))
 
-slice-aggregate-retire-step : tie.Need-slice-aggregate-retire-step
-slice-aggregate-retire-step c = sym (c .before .before .mark-all-completes .ensures .long)
+slice-aggregate-part-step : tie.Need-slice-aggregate-part-step
+slice-aggregate-part-step c = sym (c .before .before .mark-all-completes .ensures .long)
 
-retire-step-requires : tie.Need-retire-step-requires
-retire-step-requires c κs = (c .before .before .before .before .before .pre .0, c .before .before .mark-all-completes .ensures)
+part-step-requires : tie.Need-part-step-requires
+part-step-requires c κs =
+    let start = c .before .before .before .before .before in
+    (start .pre .0, (c .before .before .mark-all-completes .ensures, maps-agree _ _ (start .pre .1 .0)))
 
 enum-known-step : tie.Need-enum-known-step
 enum-known-step c = search needs
@@ -39,14 +42,14 @@ step-from-two-requires c κs =
     (start .pre .0, (marked .mark-all-completes .ensures, start .pre .1))
 
 returns : tie.Need-returns
-unfolding repairing
-returns c = step-found _ _ (c .before .before .before .retire-step .ensures) _ (c .before .step .given .1)
+unfolding repairing clearing
+returns c = step-found _ _ (c .before .before .before .part-step .ensures) _ (c .before .step .given .1)
 
 returns-2 : tie.Need-returns-2
-unfolding repairing
+unfolding repairing clearing
 returns-2 c =
     c .step-from-two .ensures
-    ∙ step-behind _ _ (c .before .before .before .before .before .retire-step .ensures) _ (c .before .before .before .k .given .1)
+    ∙ step-behind _ _ (c .before .before .before .before .before .part-step .ensures) _ (c .before .before .before .k .given .1)
 
 pub repair-step-spec : {M : Type 1} → statement M
 repair-step-spec =
@@ -54,8 +57,8 @@ repair-step-spec =
     (tie.spec
     slice-aggregate-mark-all-completes
     mark-all-completes-requires
-    slice-aggregate-retire-step
-    retire-step-requires
+    slice-aggregate-part-step
+    part-step-requires
     enum-known-step
     enum-known-k
     slice-aggregate-step-from-two

@@ -12,19 +12,20 @@ use Rattle.repair_ahead.proofs.repairs.step_from_three.Statement.{state
 use Rattle.repair_ahead.proofs.repairs.step_from_three.Tie as tie
 
 -- what is sought there, in the image that it is done on
-early : (c : tie.After-count-step) →
+early : (c : tie.After-part-step) →
     let a = c .before .before .before .args in
-    c .count-step .result ≡ sought (counting (a .geo) (bounded (a .geo) (a .image .now))) (a .i)
+    c .part-step .result ≡ sought (counting (a .geo) (bounded (a .geo) (a .image .now))) (a .i)
+unfolding counting
 early c =
     let known = c .before .before in
     let a = known .before .args in
     let words : Words32 (a .image .now) = record { small = λ q. known .shared-slice-known .given q .fits } in
     let pre = known .before .pre in
-    c .count-step .ensures
+    c .part-step .ensures
     ∙ ap (λ (xs : List Step). sought xs (a .i)) (sym (counting-early (a .geo) (a .image .now) (pre .1 .1 .0) (pre .0) words))
 
-count-step-requires : tie.Need-count-step-requires
-count-step-requires c κs = let start = c .before .before in (start .pre .0, maps-agree _ _ (start .pre .1 .1 .0))
+part-step-requires : tie.Need-part-step-requires
+part-step-requires c κs = let start = c .before .before in (start .pre .0, (start .pre .1 .0, maps-agree _ _ (start .pre .1 .1 .0)))
 
 enum-known-step : tie.Need-enum-known-step
 enum-known-step c = search needs
@@ -45,7 +46,7 @@ pub step-from-three-spec : {M : Type 1} → statement M
 step-from-three-spec =
     tie.close
     (tie.spec
-    count-step-requires
+    part-step-requires
     enum-known-step
     enum-known-k
     step-of-four-requires

@@ -12,19 +12,20 @@ use Rattle.repair_ahead.proofs.repairs.step_from_two.Statement.{stateme
 use Rattle.repair_ahead.proofs.repairs.step_from_two.Tie as tie
 
 -- what is sought there, in the image that it is done on
-early : (c : tie.After-bounds-step) →
+early : (c : tie.After-part-step) →
     let a = c .before .before .before .args in
-    c .bounds-step .result ≡ sought (bounding (a .geo) (settled (a .geo) (a .image .now))) (a .i)
+    c .part-step .result ≡ sought (bounding (a .geo) (settled (a .geo) (a .image .now))) (a .i)
+unfolding bounding
 early c =
     let known = c .before .before in
     let a = known .before .args in
     let words : Words32 (a .image .now) = record { small = λ q. known .shared-slice-known .given q .fits } in
     let pre = known .before .pre in
-    c .bounds-step .ensures
+    c .part-step .ensures
     ∙ ap (λ (xs : List Step). sought xs (a .i)) (sym (bounding-early (a .geo) (a .image .now) (pre .1 .1 .0) (pre .0) words))
 
-bounds-step-requires : tie.Need-bounds-step-requires
-bounds-step-requires c κs = let start = c .before .before in (start .pre .0, (start .pre .1 .0, maps-agree _ _ (start .pre .1 .1 .0)))
+part-step-requires : tie.Need-part-step-requires
+part-step-requires c κs = let start = c .before .before in (start .pre .0, (start .pre .1 .0, maps-agree _ _ (start .pre .1 .1 .0)))
 
 enum-known-step : tie.Need-enum-known-step
 enum-known-step c = search needs
@@ -45,7 +46,7 @@ pub step-from-two-spec : {M : Type 1} → statement M
 step-from-two-spec =
     tie.close
     (tie.spec
-    bounds-step-requires
+    part-step-requires
     enum-known-step
     enum-known-k
     step-from-three-requires
