@@ -2,7 +2,7 @@
 -- is (iv). Assumes nothing.
 use mathlib.Core.Path.{_≡_, refl, sym, ap, _∙_}
 use mathlib.Core.Bool.{Bool, true, false, cond}
-use mathlib.Core.List.{List, [], _++_}
+use mathlib.Core.List.{List, [], _++_, append-assoc}
 use Prim.Native.Nat.{ℕ, _<_}
 use native.Mathlib.Omega.{arith}
 use lib.Dec.{eqb}
@@ -21,8 +21,8 @@ use Rattle.flash.specs.declared.LiveBounds.{LiveBounds}
 use Rattle.flash.specs.declared.Step.{Step}
 use Rattle.flash.specs.Placing.{leastLive, greatestLive, liveBounds}
 use Rattle.flash.specs.Writing.{reclaiming}
-use Rattle.flash.specs.Repairing.{setsLeast, setsGreatest, bounding, largestOther, setsCount, counting, emptying}
-use Rattle.flash.specs.Repairing.{settled, bounded, counted, lacksRoom, victimWorn}
+use Rattle.flash.specs.Repairing.{clearing, setsLeast, setsGreatest, bounding, largestOther, setsCount, counting, emptying}
+use Rattle.flash.specs.Repairing.{settled, bounded, counted, repairing, lacksRoom, victimWorn}
 use Rattle.placing.proofs.BoundLaws.{bounds-ext}
 use Rattle.retiring.proofs.Retired.{Retired, settled-retired}
 use Rattle.retiring.proofs.Kept.{kind-test, live-slots-same, full-same, R6-same}
@@ -106,15 +106,25 @@ module _ (geo : Geometry) (image : Image) (fit : mendable geo image ≡ true) wh
     retired = settled-retired geo image shaped words
 
     -- (ii)
-    pub bounding-early : bounding geo (settled geo image) ≡ bounding geo image
+    bounding-early : bounding geo (settled geo image) ≡ bounding geo image
     bounding-early = bounding-same geo image (settled geo image) retired
 
     -- (iii)
-    pub counting-early : counting geo (bounded geo image) ≡ counting geo image
+    counting-early : counting geo (bounded geo image) ≡ counting geo image
     counting-early =
         counting-same geo image (bounded geo image)
         (bounded-settling geo image shaped words mend .blanks)
         (λ b l. bounded-bounding geo image shaped words mend .counts b l ∙ retired .counts b l)
+
+    -- (i) to (iii), told so, and (iv) behind them
+    pub repairing-early :
+        repairing geo image ≡ (clearing geo image ++ (bounding geo image ++ counting geo image)) ++ emptying geo (counted geo image)
+    unfolding repairing
+    repairing-early =
+        rw (bounding-early, counting-early)
+        (sym
+        (append-assoc (clearing geo image) _ (emptying geo (counted geo image))
+        ∙ ap (clearing geo image ++_) (append-assoc (bounding geo image) (counting geo image) (emptying geo (counted geo image)))))
 
     -- ---- (iv) by the plan
 

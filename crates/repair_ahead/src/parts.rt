@@ -1,9 +1,11 @@
+ghost use mathlib.Core.List.{_++_};
 ghost use mathlib.Core.Path.{_≡_};
 ghost use Prim.Native.Nat.{_<_};
 ghost use Rattle.ranges.specs.Range.{joinBelow};
 ghost use Rattle.image.specs.Words.{Shaped};
 ghost use Rattle.image.specs.WellFormed.{MapsAgree};
 ghost use Rattle.naming.specs.Completes.{Completes};
+ghost use Rattle.flash.specs.Repairing.{clearing, bounding, counting};
 ghost use Rattle.repair_ahead.specs.Parts.{blockSteps};
 ghost use Rattle.repair_ahead.specs.Sought.{sought};
 use super::Part;
@@ -36,7 +38,7 @@ fn step_in_block(
 }
 
 // Step i of one of (i) to (iii): the blocks in turn.
-pub fn part_step(part: Part, image: &[u32], geo: Geometry, completes: &[u32], i: u32) -> Sought
+fn part_step(part: Part, image: &[u32], geo: Geometry, completes: &[u32], i: u32) -> Sought
     requires { ⌜ Shaped geo (now image) ⌝ }
     requires { ⌜ Completes geo (now image) (now completes) ⌝ }
     requires { ⌜ MapsAgree geo (now image) ⌝ }
@@ -55,4 +57,20 @@ pub fn part_step(part: Part, image: &[u32], geo: Geometry, completes: &[u32], i:
         }
     }
     Sought::Behind(left)
+}
+
+// Step i of (i) to (iii), each told from the image as it is.
+pub fn mended_step(image: &[u32], geo: Geometry, completes: &[u32], i: u32) -> Sought
+    requires { ⌜ Shaped geo (now image) ⌝ }
+    requires { ⌜ Completes geo (now image) (now completes) ⌝ }
+    requires { ⌜ MapsAgree geo (now image) ⌝ }
+    ensures { λ r. ⌜ r ≡ sought (clearing geo (now (image .entry)) ++ (bounding geo (now (image .entry)) ++ counting geo (now (image .entry)))) i ⌝ }
+{
+    match part_step(Part::Retires, image, geo, completes, i) {
+        Sought::Found(step) => Sought::Found(step),
+        Sought::Behind(j) => match part_step(Part::Bounds, image, geo, completes, j) {
+            Sought::Found(step) => Sought::Found(step),
+            Sought::Behind(k) => part_step(Part::Counts, image, geo, completes, k),
+        },
+    }
 }

@@ -1,16 +1,14 @@
 ghost use mathlib.Core.Bool.{true, false};
-ghost use mathlib.Core.List.{_++_};
 ghost use mathlib.Core.Path.{_≡_};
 ghost use Rattle.image.specs.Words.{Shaped};
 ghost use Rattle.image.specs.Mending.{mendable};
 ghost use Rattle.naming.specs.Completes.{Completes};
 ghost use Rattle.flash.specs.Steps.{stepAt};
-ghost use Rattle.flash.specs.Repairing.{bounding, counting, emptying, settled, bounded, counted, repairing, lacksRoom, victimWorn};
+ghost use Rattle.flash.specs.Repairing.{emptying, counted, repairing, lacksRoom, victimWorn};
 ghost use Rattle.repairing.specs.Planned.{repairPlanned};
-use super::Part;
 use super::Sought;
 use super::emptying::empty_step;
-use super::parts::part_step;
+use super::parts::mended_step;
 use flash::NextStep;
 use geometry::Geometry;
 use naming::mark_all_completes;
@@ -40,56 +38,7 @@ fn step_of_four(
     }
 }
 
-// Step i of (iii), or of (iv) behind it.
-fn step_from_three(
-    image: &[u32],
-    geo: Geometry,
-    completes: &[u32],
-    plan: RepairPlan,
-    i: u32,
-) -> NextStep
-    requires { ⌜ Shaped geo (now image) ⌝ }
-    requires { ⌜ Completes geo (now image) (now completes) ⌝ }
-    requires { ⌜ mendable geo (now image) ≡ true ⌝ }
-    requires { ⌜ plan ≡ repairPlanned geo (now image) ⌝ }
-    requires { ⌜ lacksRoom geo (now image) ≡ false ⌝ }
-    requires { ⌜ victimWorn geo (now image) ≡ false ⌝ }
-    ensures { λ r. ⌜ r ≡ stepAt (counting geo (bounded geo (now (image .entry))) ++ emptying geo (counted geo (now (image .entry)))) i ⌝ }
-{
-    match part_step(Part::Counts, image, geo, completes, i) {
-        Sought::Found(step) => NextStep::Next(step),
-        Sought::Behind(k) => step_of_four(image, geo, completes, plan, k),
-    }
-}
-
-// Step i of (ii), or of what follows it.
-fn step_from_two(
-    image: &[u32],
-    geo: Geometry,
-    completes: &[u32],
-    plan: RepairPlan,
-    i: u32,
-) -> NextStep
-    requires { ⌜ Shaped geo (now image) ⌝ }
-    requires { ⌜ Completes geo (now image) (now completes) ⌝ }
-    requires { ⌜ mendable geo (now image) ≡ true ⌝ }
-    requires { ⌜ plan ≡ repairPlanned geo (now image) ⌝ }
-    requires { ⌜ lacksRoom geo (now image) ≡ false ⌝ }
-    requires { ⌜ victimWorn geo (now image) ≡ false ⌝ }
-    ensures { λ r.
-        ⌜ r
-        ≡ stepAt
-        (bounding geo (settled geo (now (image .entry)))
-        ++ (counting geo (bounded geo (now (image .entry))) ++ emptying geo (counted geo (now (image .entry)))))
-        i ⌝ }
-{
-    match part_step(Part::Bounds, image, geo, completes, i) {
-        Sought::Found(step) => NextStep::Next(step),
-        Sought::Behind(k) => step_from_three(image, geo, completes, plan, k),
-    }
-}
-
-// Step i of a repair that is not refused, as it is planned: of (i), or of what follows it. The numbers with a complete entry are marked once for all.
+// Step i of a repair that is not refused, as it is planned: of (i) to (iii), or of (iv) behind them. The numbers with a complete entry are marked once.
 pub fn repair_step(image: &[u32], geo: Geometry, plan: RepairPlan, i: u32) -> NextStep
     requires { ⌜ Shaped geo (now image) ⌝ }
     requires { ⌜ mendable geo (now image) ≡ true ⌝ }
@@ -100,8 +49,8 @@ pub fn repair_step(image: &[u32], geo: Geometry, plan: RepairPlan, i: u32) -> Ne
 {
     let mut completes = [0xFFFF_FFFFu32; 124];
     mark_all_completes(image, geo, &mut completes);
-    match part_step(Part::Retires, image, geo, &completes, i) {
+    match mended_step(image, geo, &completes, i) {
         Sought::Found(step) => NextStep::Next(step),
-        Sought::Behind(k) => step_from_two(image, geo, &completes, plan, k),
+        Sought::Behind(k) => step_of_four(image, geo, &completes, plan, k),
     }
 }
