@@ -1,9 +1,11 @@
+#![tactic(auto)]
+
 // What a call answers: that it was accepted, or why it was refused (docs/FORMAT.md, Refusals).
 ghost use Rattle.std.specs.Prelude.{◌≡◌};
 ghost use Rattle.answers.specs.Answers.{number_of, block_of, rule_of};
 
 // An answer. `Malformed` carries the first failing pair (K1): the block, and the rule that fails there, by its number.
-#[derive(Drop)]
+#[derive(Clone, Copy)]
 pub enum Answer {
     Accepted,
     BadGeometry,

@@ -1,3 +1,5 @@
+#![tactic(auto)]
+
 // What the slots of a block say of it, and the blocks that a write chooses by them.
 ghost use Rattle.std.specs.Prelude.{true, ◌≡◌, ◌<◌};
 ghost use Rattle.ranges.specs.Range.{count_below};

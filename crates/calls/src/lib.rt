@@ -1,3 +1,5 @@
+#![tactic(auto)]
+
 // The calls that look a number up, with a lookup table (K2) of any length: a number whose word is not there is searched for, and not noted.
 // The calls without a table (shellwaltz) hand on one of no words; those with one (tabled) ask for its length first. And a repair (K4), which looks
 // none up. Each tests its rows of the table of refusals (docs/FORMAT.md, Refusals), in the order there, with 2 for the buffer alone, and then does
@@ -14,7 +16,7 @@ use image::Found;
 use repairing::RepairPlan;
 
 // What format, write, release and repair report: the words programmed and the blocks erased.
-#[derive(Drop)]
+#[derive(Clone, Copy)]
 pub struct Outcome {
     pub answer: Answer,
     pub words: u32,
@@ -22,7 +24,7 @@ pub struct Outcome {
 }
 
 // What report reports: mapped, free and dead slots, and the sum of the erase counts.
-#[derive(Drop)]
+#[derive(Clone, Copy)]
 pub struct Totals {
     pub answer: Answer,
     pub mapped: u32,
@@ -32,7 +34,7 @@ pub struct Totals {
 }
 
 // The course of a write, refusals told: refused with this answer; or by rule 1 or 2; or by rule 3 with this victim.
-#[derive(Drop)]
+#[derive(Clone, Copy)]
 pub enum WriteCourse {
     Refused(Answer),
     Fill,
@@ -40,14 +42,14 @@ pub enum WriteCourse {
 }
 
 // The course of a release: refused with this answer; or the entry at this place is made invalid.
-#[derive(Drop)]
+#[derive(Clone, Copy)]
 pub enum ReleaseCourse {
     Refused(Answer),
     Invalidate(Found),
 }
 
 // The course of a repair: refused with this answer; or by this plan, (i) to (iii) or all four.
-#[derive(Drop)]
+#[derive(Clone, Copy)]
 pub enum RepairCourse {
     Refused(Answer),
     Along(RepairPlan),

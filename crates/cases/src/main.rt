@@ -1,9 +1,12 @@
+#![tactic(auto)]
+
 // Runs cases of docs/FORMAT.md (Figures, The script program, Rules of a well-formed image, The first failing pair) over the calls at (8,16,90)
 // and prints what they answer, a line each: an image that breaks one rule alone and the sound one beside it, images with two faults, the
 // session of four records, calls over an entry in passing and a slot that was taken, sector 0 written 106 times, and the victim's count on either
 // side of the ceiling. The file stdout is what FORMAT.md says of each.
 use geometry::Geometry;
-use libc::STDOUT_FILENO;
+use std::io;
+use std::io::Print;
 
 // d is 15 and k is 1: a block has 2,048 words, its map is word 3, its entries are words 4 to 18.
 fn geo() -> Geometry {
@@ -14,22 +17,24 @@ fn geo() -> Geometry {
     }
 }
 
-fn text(bytes: &[u8]) {
-    io::write_all(STDOUT_FILENO, bytes);
+fn text(rt: &impl Print, bytes: &[u8]) -> io::Result<()> {
+    rt.write_all(bytes)
 }
 
-fn show(n: u32) {
-    io::print_decimal(STDOUT_FILENO, n as u64);
+fn show(rt: &impl Print, n: u32) -> io::Result<()> {
+    print!(rt; "{n}")
 }
 
 // A space and a number.
-fn and(n: u32) {
-    text(b" ");
-    show(n);
+fn and(rt: &impl Print, n: u32) -> io::Result<()> {
+    text(rt, b" ")?;
+    show(rt, n)?;
+    Ok(())
 }
 
-fn end_line() {
-    text(b"\n");
+fn end_line(rt: &impl Print) -> io::Result<()> {
+    text(rt, b"\n")?;
+    Ok(())
 }
 
 // Stores a word of block b by hand.
@@ -80,117 +85,145 @@ fn fresh(image: &mut [u32]) {
 }
 
 // What check answers of the image: the number, and the block and the rule that it names.
-fn verdict(image: &[u32]) {
+fn verdict(rt: &impl Print, image: &[u32]) -> io::Result<()> {
     let answer = shellwaltz::check(image, geo());
-    and(answers::number(answer));
-    and(answers::bad_block(answer));
-    and(answers::bad_rule(answer));
-    end_line();
+    and(rt, answers::number(answer))?;
+    and(rt, answers::bad_block(answer))?;
+    and(rt, answers::bad_rule(answer))?;
+    end_line(rt)?;
+    Ok(())
 }
 
 // A case's line: its name, the rule's number, and the verdict.
-fn tell(image: &[u32], name: &[u8], rule: u32) {
-    text(name);
-    show(rule);
-    verdict(image);
+fn tell(rt: &impl Print, image: &[u32], name: &[u8], rule: u32) -> io::Result<()> {
+    text(rt, name)?;
+    show(rt, rule)?;
+    verdict(rt, image)?;
+    Ok(())
 }
 
 // Two words of block b that break the rule.
-fn broken(image: &mut [u32], rule: u32, b: usize, map: u32, word: usize, value: u32) {
+fn broken(
+    rt: &impl Print,
+    image: &mut [u32],
+    rule: u32,
+    b: usize,
+    map: u32,
+    word: usize,
+    value: u32,
+) -> io::Result<()> {
     put(image, b, map, word, value);
-    tell(image, b"R", rule);
+    tell(rt, image, b"R", rule)?;
+    Ok(())
 }
 
 // Two that make the image sound again.
-fn sound(image: &mut [u32], rule: u32, b: usize, map: u32, word: usize, value: u32) {
+fn sound(
+    rt: &impl Print,
+    image: &mut [u32],
+    rule: u32,
+    b: usize,
+    map: u32,
+    word: usize,
+    value: u32,
+) -> io::Result<()> {
     put(image, b, map, word, value);
-    tell(image, b"ok", rule);
+    tell(rt, image, b"ok", rule)?;
+    Ok(())
 }
 
 // R1: a count one above the ceiling; at the ceiling.
-fn rule1(image: &mut [u32]) {
+fn rule1(rt: &impl Print, image: &mut [u32]) -> io::Result<()> {
     fresh(image);
-    broken(image, 1, 0, 0xFFFFFFFF, 0, 1000001);
-    sound(image, 1, 0, 0xFFFFFFFF, 0, 1000000);
+    broken(rt, image, 1, 0, 0xFFFFFFFF, 0, 1000001)?;
+    sound(rt, image, 1, 0, 0xFFFFFFFF, 0, 1000000)?;
+    Ok(())
 }
 
 // R2: a map bit set over a dead entry; clear over it, and over a free one.
-fn rule2(image: &mut [u32]) {
+fn rule2(rt: &impl Print, image: &mut [u32]) -> io::Result<()> {
     fresh(image);
-    broken(image, 2, 0, 0xFFFFFFFF, 4, 0x00000005);
-    sound(image, 2, 0, 0xFFFFFFFE, 4, 0x00000005);
-    sound(image, 2, 0, 0xFFFFFFFE, 4, 0xFFFFFFFF);
+    broken(rt, image, 2, 0, 0xFFFFFFFF, 4, 0x00000005)?;
+    sound(rt, image, 2, 0, 0xFFFFFFFE, 4, 0x00000005)?;
+    sound(rt, image, 2, 0, 0xFFFFFFFE, 4, 0xFFFFFFFF)?;
+    Ok(())
 }
 
 // R2: the map bit after the last slot's cleared; the last slot's, over a dead entry.
-fn rule2_above(image: &mut [u32]) {
+fn rule2_above(rt: &impl Print, image: &mut [u32]) -> io::Result<()> {
     fresh(image);
-    broken(image, 2, 0, 0xFFFF7FFF, 18, 0xFFFFFFFF);
-    sound(image, 2, 0, 0xFFFFBFFF, 18, 0x00000005);
+    broken(rt, image, 2, 0, 0xFFFF7FFF, 18, 0xFFFFFFFF)?;
+    sound(rt, image, 2, 0, 0xFFFFBFFF, 18, 0x00000005)?;
+    Ok(())
 }
 
 // R3: the last word of the image programmed, its slot free; its slot taken, with a free entry and with a dead one.
-fn rule3(image: &mut [u32]) {
+fn rule3(rt: &impl Print, image: &mut [u32]) -> io::Result<()> {
     fresh(image);
-    broken(image, 3, 7, 0xFFFFFFFF, 2047, 0xFFFFFFFE);
-    sound(image, 3, 7, 0xFFFFBFFF, 18, 0xFFFFFFFF);
-    sound(image, 3, 7, 0xFFFFBFFF, 18, 0x00000005);
+    broken(rt, image, 3, 7, 0xFFFFFFFF, 2047, 0xFFFFFFFE)?;
+    sound(rt, image, 3, 7, 0xFFFFBFFF, 18, 0xFFFFFFFF)?;
+    sound(rt, image, 3, 7, 0xFFFFBFFF, 18, 0x00000005)?;
+    Ok(())
 }
 
 // R4: an entry like a live one with the number L; with L - 1.
-fn rule4(image: &mut [u32]) {
+fn rule4(rt: &impl Print, image: &mut [u32]) -> io::Result<()> {
     fresh(image);
-    broken(image, 4, 0, 0xFFFFFFFE, 4, 0xC000005A);
-    sound(image, 4, 0, 0xFFFFFFFE, 4, 0xC0000059);
+    broken(rt, image, 4, 0, 0xFFFFFFFE, 4, 0xC000005A)?;
+    sound(rt, image, 4, 0, 0xFFFFFFFE, 4, 0xC0000059)?;
+    Ok(())
 }
 
 // R4: a complete entry with the number L, beside one in passing; the one in passing alone, which is dead.
-fn rule4_passing(image: &mut [u32]) {
+fn rule4_passing(rt: &impl Print, image: &mut [u32]) -> io::Result<()> {
     fresh(image);
     put(image, 0, 0xFFFFFFFE, 4, 0x8000005A);
-    broken(image, 4, 1, 0xFFFFFFFE, 4, 0xC000005A);
-    sound(image, 4, 1, 0xFFFFFFFF, 4, 0xFFFFFFFF);
+    broken(rt, image, 4, 1, 0xFFFFFFFE, 4, 0xC000005A)?;
+    sound(rt, image, 4, 1, 0xFFFFFFFF, 4, 0xFFFFFFFF)?;
+    Ok(())
 }
 
 // R5: 5 live in two blocks; in one, and released in the other.
-fn rule5(image: &mut [u32]) {
+fn rule5(rt: &impl Print, image: &mut [u32]) -> io::Result<()> {
     fresh(image);
     put(image, 0, 0xFFFFFFFE, 4, 0xC0000005);
-    broken(image, 5, 1, 0xFFFFFFFE, 4, 0xC0000005);
-    sound(image, 5, 1, 0xFFFFFFFE, 4, 0x40000005);
+    broken(rt, image, 5, 1, 0xFFFFFFFE, 4, 0xC0000005)?;
+    sound(rt, image, 5, 1, 0xFFFFFFFE, 4, 0x40000005)?;
+    Ok(())
 }
 
 // R5: 5 in passing in two blocks; in one.
-fn rule5_passing(image: &mut [u32]) {
+fn rule5_passing(rt: &impl Print, image: &mut [u32]) -> io::Result<()> {
     fresh(image);
     put(image, 0, 0xFFFFFFFE, 4, 0x80000005);
-    broken(image, 5, 1, 0xFFFFFFFE, 4, 0x80000005);
-    sound(image, 5, 1, 0xFFFFFFFF, 4, 0xFFFFFFFF);
+    broken(rt, image, 5, 1, 0xFFFFFFFE, 4, 0x80000005)?;
+    sound(rt, image, 5, 1, 0xFFFFFFFF, 4, 0xFFFFFFFF)?;
+    Ok(())
 }
 
 // R6: every block open; the last one blank.
-fn rule6(image: &mut [u32]) {
+fn rule6(rt: &impl Print, image: &mut [u32]) -> io::Result<()> {
     fresh(image);
     set_all(image, 3, 0xFFFFFFFE);
     set_all(image, 4, 0x00000005);
-    tell(image, b"R", 6);
-    sound(image, 6, 7, 0xFFFFFFFF, 4, 0xFFFFFFFF);
+    tell(rt, image, b"R", 6)?;
+    sound(rt, image, 6, 7, 0xFFFFFFFF, 4, 0xFFFFFFFF)?;
+    Ok(())
 }
 
 // R7: word 1 programmed in an open block; all ones.
-fn rule7_open(image: &mut [u32]) {
+fn rule7_open(rt: &impl Print, image: &mut [u32]) -> io::Result<()> {
     fresh(image);
     set(image, 0, 4, 0xC0000005);
-    broken(image, 7, 0, 0xFFFFFFFE, 1, 5);
-    sound(image, 7, 0, 0xFFFFFFFE, 1, 0xFFFFFFFF);
+    broken(rt, image, 7, 0, 0xFFFFFFFE, 1, 5)?;
+    sound(rt, image, 7, 0, 0xFFFFFFFE, 1, 0xFFFFFFFF)?;
+    Ok(())
 }
 
 // Gives every slot of block 0 a dead entry.
 fn fill_dead(image: &mut [u32]) {
-    let mut word = 4;
-    while word < 19 {
+    for word in 4..19 {
         set(image, 0, word, 0x00000005);
-        word += 1;
     }
     set(image, 0, 3, 0xFFFF8000);
 }
@@ -204,29 +237,32 @@ fn fill(image: &mut [u32]) {
 }
 
 // R7: a full block with 5 and 9 live and words 1 and 2 saying 6 to 9; 5 to 9; 5 and all ones.
-fn rule7_full(image: &mut [u32]) {
+fn rule7_full(rt: &impl Print, image: &mut [u32]) -> io::Result<()> {
     fresh(image);
     fill(image);
-    broken(image, 7, 0, 0xFFFF8000, 1, 6);
-    sound(image, 7, 0, 0xFFFF8000, 1, 5);
-    broken(image, 7, 0, 0xFFFF8000, 2, 0xFFFFFFFF);
+    broken(rt, image, 7, 0, 0xFFFF8000, 1, 6)?;
+    sound(rt, image, 7, 0, 0xFFFF8000, 1, 5)?;
+    broken(rt, image, 7, 0, 0xFFFF8000, 2, 0xFFFFFFFF)?;
+    Ok(())
 }
 
 // R7: a full block with nothing live and words 1 and 2 all ones; word 1 alone; neither.
-fn rule7_unset(image: &mut [u32]) {
+fn rule7_unset(rt: &impl Print, image: &mut [u32]) -> io::Result<()> {
     fresh(image);
     fill_dead(image);
-    tell(image, b"R", 7);
-    broken(image, 7, 0, 0xFFFF8000, 2, 0);
-    sound(image, 7, 0, 0xFFFF8000, 1, 1000);
+    tell(rt, image, b"R", 7)?;
+    broken(rt, image, 7, 0, 0xFFFF8000, 2, 0)?;
+    sound(rt, image, 7, 0, 0xFFFF8000, 1, 1000)?;
+    Ok(())
 }
 
 // R8: 5 in passing, and complete in a later block; released there.
-fn rule8(image: &mut [u32]) {
+fn rule8(rt: &impl Print, image: &mut [u32]) -> io::Result<()> {
     fresh(image);
     put(image, 0, 0xFFFFFFFE, 4, 0x80000005);
-    broken(image, 8, 1, 0xFFFFFFFE, 4, 0xC0000005);
-    sound(image, 8, 1, 0xFFFFFFFE, 4, 0x40000005);
+    broken(rt, image, 8, 1, 0xFFFFFFFE, 4, 0xC0000005)?;
+    sound(rt, image, 8, 1, 0xFFFFFFFE, 4, 0x40000005)?;
+    Ok(())
 }
 
 // A fault of each rule, 1 to 8, in block b, as one word of the block and the map bits that stay. Each has a place of its own, so that two can
@@ -292,36 +328,39 @@ fn before_faults(image: &mut [u32]) {
 
 // A case is a number of four digits: the rule and the block of one fault, and those of another, or two zeros. Its line has the number and the
 // verdict.
-fn two_faults(image: &mut [u32], case: u32) {
+fn two_faults(rt: &impl Print, image: &mut [u32], case: u32) -> io::Result<()> {
     before_faults(image);
     plant(image, case / 1000 % 10, case / 100 % 10);
     plant(image, case / 10 % 10, case % 10);
-    show(case);
-    verdict(image);
+    show(rt, case)?;
+    verdict(rt, image)?;
+    Ok(())
 }
 
-fn each_case(image: &mut [u32], cases: &[u32]) {
+fn each_case(rt: &impl Print, image: &mut [u32], cases: &[u32]) -> io::Result<()> {
     let n = cases.len();
     for i in 0..n {
-        two_faults(image, cases[i]);
+        two_faults(rt, image, cases[i])?;
     }
+    Ok(())
 }
 
 // The first failing pair: each rule alone; with a fault in an earlier block, which is named whatever its rule, and in a later one, which is not;
 // with one in the same block that comes before it in the order, and after it; and R5 with the two slots in two blocks, in one, and with more.
-fn name_faults(image: &mut [u32]) {
+fn name_faults(rt: &impl Print, image: &mut [u32]) -> io::Result<()> {
     let alone = [1300, 2300, 3300, 4300, 5300, 6700, 7300, 8300];
-    each_case(image, &alone);
+    each_case(rt, image, &alone)?;
     let earlier_block = [1372, 2372, 3372, 4372, 5372, 6777, 7352, 1382, 8372, 8382];
-    each_case(image, &earlier_block);
+    each_case(rt, image, &earlier_block)?;
     let later_block = [1314, 2314, 3314, 4314, 5314, 7314, 8314];
-    each_case(image, &later_block);
+    each_case(rt, image, &later_block)?;
     let earlier_rule = [2313, 3323, 4333, 5343, 6713, 7353, 8373, 8353];
-    each_case(image, &earlier_rule);
+    each_case(rt, image, &earlier_rule)?;
     let later_rule = [1373, 2373, 3373, 4373, 5373, 7367, 7383, 8367];
-    each_case(image, &later_rule);
+    each_case(rt, image, &later_rule)?;
     let live_twice = [5500, 5000, 5574, 5552];
-    each_case(image, &live_twice);
+    each_case(rt, image, &live_twice)?;
+    Ok(())
 }
 
 // Writes sector n, every word of it `fill`.
@@ -331,89 +370,115 @@ fn write(image: &mut [u32], n: u32, fill: u32) -> calls::Outcome {
 }
 
 // A record's line.
-fn record(letter: &[u8], n: u32, answer: u32, words: u32, erasures: u32, first: u32) {
-    text(letter);
-    and(n);
-    and(answer);
-    and(words);
-    and(erasures);
-    and(first);
-    end_line();
+fn record(
+    rt: &impl Print,
+    letter: &[u8],
+    n: u32,
+    answer: u32,
+    words: u32,
+    erasures: u32,
+    first: u32,
+) -> io::Result<()> {
+    text(rt, letter)?;
+    and(rt, n)?;
+    and(rt, answer)?;
+    and(rt, words)?;
+    and(rt, erasures)?;
+    and(rt, first)?;
+    end_line(rt)?;
+    Ok(())
 }
 
 // That of a call which changes the image.
-fn outcome_line(letter: &[u8], n: u32, r: calls::Outcome) {
+fn outcome_line(rt: &impl Print, letter: &[u8], n: u32, r: calls::Outcome) -> io::Result<()> {
     let answer = r.answer;
-    record(letter, n, answers::number(answer), r.words, r.erasures, 0);
+    record(
+        rt,
+        letter,
+        n,
+        answers::number(answer),
+        r.words,
+        r.erasures,
+        0,
+    )?;
+    Ok(())
 }
 
-fn write_line(image: &mut [u32], n: u32, fill: u32) {
-    outcome_line(b"W", n, write(image, n, fill));
+fn write_line(rt: &impl Print, image: &mut [u32], n: u32, fill: u32) -> io::Result<()> {
+    outcome_line(rt, b"W", n, write(image, n, fill))?;
+    Ok(())
 }
 
-fn read_line(image: &[u32], n: u32, buffer: &mut [u32]) {
+fn read_line(rt: &impl Print, image: &[u32], n: u32, buffer: &mut [u32]) -> io::Result<()> {
     let answer = answers::number(shellwaltz::read(image, geo(), n, buffer));
     let mut first = 0;
     if answer == 0 {
         first = get(buffer, 0, 0);
     }
-    record(b"R", n, answer, 0, 0, first);
+    record(rt, b"R", n, answer, 0, 0, first)?;
+    Ok(())
 }
 
-fn release_line(image: &mut [u32], n: u32) {
-    outcome_line(b"D", n, shellwaltz::release(image, geo(), n));
+fn release_line(rt: &impl Print, image: &mut [u32], n: u32) -> io::Result<()> {
+    outcome_line(rt, b"D", n, shellwaltz::release(image, geo(), n))?;
+    Ok(())
 }
 
-fn totals_line(image: &[u32]) {
+fn totals_line(rt: &impl Print, image: &[u32]) -> io::Result<()> {
     let t = shellwaltz::report(image, geo());
-    text(b"T");
-    and(t.mapped);
-    and(t.free);
-    and(t.dead);
-    and(t.erase_sum);
-    end_line();
+    text(rt, b"T")?;
+    and(rt, t.mapped)?;
+    and(rt, t.free)?;
+    and(rt, t.dead)?;
+    and(rt, t.erase_sum)?;
+    end_line(rt)?;
+    Ok(())
 }
 
 // The records (1,5,7) (2,5,0) (3,5,0) (2,5,0).
-fn session(image: &mut [u32], buffer: &mut [u32]) {
+fn session(rt: &impl Print, image: &mut [u32], buffer: &mut [u32]) -> io::Result<()> {
     fresh(image);
-    write_line(image, 5, 7);
-    read_line(image, 5, buffer);
-    release_line(image, 5);
-    read_line(image, 5, buffer);
-    totals_line(image);
+    write_line(rt, image, 5, 7)?;
+    read_line(rt, image, 5, buffer)?;
+    release_line(rt, image, 5)?;
+    read_line(rt, image, 5, buffer)?;
+    totals_line(rt, image)?;
+    Ok(())
 }
 
 // 5 written, and its entry put in passing: it is read, and written again.
-fn passing_written(image: &mut [u32], buffer: &mut [u32]) {
+fn passing_written(rt: &impl Print, image: &mut [u32], buffer: &mut [u32]) -> io::Result<()> {
     fresh(image);
-    write_line(image, 5, 7);
+    write_line(rt, image, 5, 7)?;
     set(image, 0, 4, 0x80000005);
-    read_line(image, 5, buffer);
-    write_line(image, 5, 9);
-    read_line(image, 5, buffer);
+    read_line(rt, image, 5, buffer)?;
+    write_line(rt, image, 5, 9)?;
+    read_line(rt, image, 5, buffer)?;
+    Ok(())
 }
 
 // Its new entry put in passing too, and 5 released; the two entries that are left.
-fn passing_released(image: &mut [u32]) {
+fn passing_released(rt: &impl Print, image: &mut [u32]) -> io::Result<()> {
     set(image, 0, 5, 0x80000005);
-    release_line(image, 5);
-    show(get(image, 0, 4));
-    and(get(image, 0, 5));
-    end_line();
+    release_line(rt, image, 5)?;
+    show(rt, get(image, 0, 4))?;
+    and(rt, get(image, 0, 5))?;
+    end_line(rt)?;
+    Ok(())
 }
 
 // A slot that is taken, slot 2: the next write passes it by.
-fn taken(image: &mut [u32]) {
+fn taken(rt: &impl Print, image: &mut [u32]) -> io::Result<()> {
     set(image, 0, 3, 0xFFFFFFF8);
-    write_line(image, 6, 1);
-    show(get(image, 0, 7));
-    end_line();
-    totals_line(image);
+    write_line(rt, image, 6, 1)?;
+    show(rt, get(image, 0, 7))?;
+    end_line(rt)?;
+    totals_line(rt, image)?;
+    Ok(())
 }
 
 // Which write is the first with an erasure, and what it reports; three zeros where none has one.
-#[derive(Drop)]
+#[derive(Clone, Copy)]
 struct First {
     write: u32,
     words: u32,
@@ -422,9 +487,8 @@ struct First {
 
 // Writes sector 0 until a write erases, and not more than `times` times.
 fn write_on(image: &mut [u32], times: u32) -> First {
-    let mut i = 0;
-    while i < times {
-        i += 1;
+    for before in 0..times {
+        let i = before + 1;
         let r = write(image, 0, i);
         if r.erasures != 0 {
             return First {
@@ -443,66 +507,71 @@ fn write_on(image: &mut [u32], times: u32) -> First {
 
 // Sector 0 written 106 times: the first write with an erasure, its words and erasures, the entry of slot 0 of block 7 and
 // the erase count of block 0.
-fn first_erasure(image: &mut [u32]) {
+fn first_erasure(rt: &impl Print, image: &mut [u32]) -> io::Result<()> {
     fresh(image);
     let f = write_on(image, 106);
-    show(f.write);
-    and(f.words);
-    and(f.erasures);
-    and(get(image, 7, 4));
-    and(get(image, 0, 0));
-    end_line();
+    show(rt, f.write)?;
+    and(rt, f.words)?;
+    and(rt, f.erasures)?;
+    and(rt, get(image, 7, 4))?;
+    and(rt, get(image, 0, 0))?;
+    end_line(rt)?;
+    Ok(())
 }
 
 // The write after 105 of sector 0, when no block is open and one is blank: blocks 0 to 5 have 15 dead slots, so with the
 // counts alike block 0 is the victim.
-fn victim(image: &mut [u32], count: u32) {
+fn victim(rt: &impl Print, image: &mut [u32], count: u32) -> io::Result<()> {
     fresh(image);
     write_on(image, 105);
     set_all(image, 0, count);
     let r = write(image, 0, 106);
     let answer = r.answer;
-    show(answers::number(answer));
-    and(r.words);
-    and(r.erasures);
-    end_line();
+    show(rt, answers::number(answer))?;
+    and(rt, r.words)?;
+    and(rt, r.erasures)?;
+    end_line(rt)?;
+    Ok(())
 }
 
 // An image that breaks each rule alone, and the sound one beside it: rules 1 to 4, and 5 to 8.
-fn check_rules(image: &mut [u32]) {
-    rule1(image);
-    rule2(image);
-    rule2_above(image);
-    rule3(image);
-    rule4(image);
-    rule4_passing(image);
+fn check_rules(rt: &impl Print, image: &mut [u32]) -> io::Result<()> {
+    rule1(rt, image)?;
+    rule2(rt, image)?;
+    rule2_above(rt, image)?;
+    rule3(rt, image)?;
+    rule4(rt, image)?;
+    rule4_passing(rt, image)?;
+    Ok(())
 }
 
-fn check_more_rules(image: &mut [u32]) {
-    rule5(image);
-    rule5_passing(image);
-    rule6(image);
-    rule7_open(image);
-    rule7_full(image);
-    rule7_unset(image);
-    rule8(image);
+fn check_more_rules(rt: &impl Print, image: &mut [u32]) -> io::Result<()> {
+    rule5(rt, image)?;
+    rule5_passing(rt, image)?;
+    rule6(rt, image)?;
+    rule7_open(rt, image)?;
+    rule7_full(rt, image)?;
+    rule7_unset(rt, image)?;
+    rule8(rt, image)?;
+    Ok(())
 }
 
-fn run(image: &mut [u32], buffer: &mut [u32]) {
-    check_rules(image);
-    check_more_rules(image);
-    name_faults(image);
-    session(image, buffer);
-    passing_written(image, buffer);
-    passing_released(image);
-    taken(image);
-    first_erasure(image);
-    victim(image, 999999);
-    victim(image, 1000000);
+fn run(rt: &impl Print, image: &mut [u32], buffer: &mut [u32]) -> io::Result<()> {
+    check_rules(rt, image)?;
+    check_more_rules(rt, image)?;
+    name_faults(rt, image)?;
+    session(rt, image, buffer)?;
+    passing_written(rt, image, buffer)?;
+    passing_released(rt, image)?;
+    taken(rt, image)?;
+    first_erasure(rt, image)?;
+    victim(rt, image, 999999)?;
+    victim(rt, image, 1000000)?;
+    Ok(())
 }
 
-fn main() {
+fn main(rt: HostRuntime) -> io::Result<()> {
     let mut image = [0u32; 16384];
     let mut buffer = [0u32; 128];
-    run(&mut image, &mut buffer);
+    run(&rt, &mut image, &mut buffer)
 }

@@ -1,3 +1,5 @@
+#![tactic(auto)]
+
 // What is wrong with an image: the first block and rule that fail. A sound image is passed over once, by the slots' own kinds; only where that
 // finds something wrong, the slower walk of `naming` says what it is.
 ghost use Rattle.std.specs.Prelude.{true, ◌&&◌, ◌≡◌, suc, ◌<◌};

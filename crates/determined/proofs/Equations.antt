@@ -22,7 +22,7 @@ module _ {M : Type 1} (𝓤 : Ura M) where
   -- for one parameter, where `rest` has those after it
   abbrev Next : {D : Type 0} (e : Exit D) (d : D) (x z : Last e d) → (SProp 𝓤 → SProp 𝓤) → SProp 𝓤 → SProp 𝓤
   Next unchanged d x z rest P = rest P
-  Next (leaves L l S s) d x z rest P = sep 𝓤 P (rest (fact 𝓤 (x ≡ z)))
+  Next (leaves L l S s last) d x z rest P = sep 𝓤 P (rest (fact 𝓤 (x ≡ z)))
 
   -- they say P, and that all are as z says
   next-says :
@@ -32,7 +32,7 @@ module _ {M : Type 1} (𝓤 : Ura M) where
       (Next e d x z rest P ⊢ P) × (Next e d x z rest P ⊢ fact 𝓤 ((x ≡ z) × R))
   next-says unchanged d x z R rest says P =
       ((says P).0, via 𝓤 (fact 𝓤 R) (says P).1 (fact_mono 𝓤 R ((x ≡ z) × R) (λ r. (refl, r))))
-  next-says (leaves L l S s) d x z R rest says P =
+  next-says (leaves L l S s last) d x z R rest says P =
       let Q = fact 𝓤 (x ≡ z) in
       let after = snd∗ 𝓤 P (rest Q) in (
         fst∗ 𝓤 P (rest Q),
@@ -48,7 +48,7 @@ module _ {M : Type 1} (𝓤 : Ura M) where
       emp 𝓤 ⊢ P →
       emp 𝓤 ⊢ Next e d z z rest P
   next-holds unchanged d z rest holds P p = holds P p
-  next-holds (leaves L l S s) d z rest holds P p =
+  next-holds (leaves L l S s last) d z rest holds P p =
       let Q = rest (fact 𝓤 (z ≡ z)) in
       via 𝓤 (sep 𝓤 (emp 𝓤) Q) (via 𝓤 Q (holds _ (fact_i 𝓤 (z ≡ z) (emp 𝓤) refl)) (emp∗ 𝓤 Q)) (mono_l 𝓤 Q p)
 

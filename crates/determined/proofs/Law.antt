@@ -8,6 +8,7 @@ use seplogic.Ra.Ura.{Ura}
 use base.Logic.{SProp, ent, emp, id⊢}
 use base.Stored.{Coded, Coded-set, coded_unit, coded_ℕ, coded_list, coded×}
 use prog.Model.{Model}
+use prog.Wired.{Wired}
 use types.Logic.{Logic}
 use contract.Monad.{fact}
 use contract.Running.{Running}
@@ -66,8 +67,9 @@ module _ (f : Function) where
       (one_outcome : (w : World) (c : Call f) (g : (of_call f w c).ghost) (o : Outcome f c) →
       ensured f w c g o ≡ Equations w.𝓤 f c o (outcome c))
       (met : (M : Type 1) (𝓤 : Ura M) (𝓛 : Logic 𝓤) (𝓜 : Model 𝓤 𝓛.H) (𝓡 : Running 𝓤 𝓛.H 𝓜) →
-      Meets 𝓛 f.ended.signature (𝓡.run f.routine)
-      (closing 𝓛 f.ended (f.clauses M 𝓤 𝓛 𝓜.mem 𝓡.run))) →
+      Wired 𝓡.env f.code →
+      Meets 𝓛 f.ended.signature (𝓡.run (𝓡.env f.name))
+      (closing 𝓛 f.ended (f.clauses M 𝓤 𝓛 𝓜.mem 𝓡.returns))) →
       Determined f
   determined lasts outcome any_input one_outcome met =
       record {

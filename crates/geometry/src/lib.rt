@@ -1,10 +1,12 @@
+#![tactic(auto)]
+
 ghost use Rattle.std.specs.Prelude.{◌≡◌, ◌<◌};
 ghost use Rattle.geometry.specs.Geometry.{d, k, g, block_length, image_length, within_limits, Limits};
 ghost use Rattle.geometry.specs.Places.{place, erase_word, map_word, entry_word, content_word};
 
 // The three numbers B, S and L (FORMAT.md, Geometry), by value. Any three may be handed in:
 // each method is total, and what it gives is what specs/Geometry.antt says, within the limits or not.
-#[derive(Drop)]
+#[derive(Clone, Copy)]
 pub struct Geometry {
     pub blocks: u16,
     pub sectors: u16,

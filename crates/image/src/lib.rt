@@ -1,9 +1,11 @@
+#![tactic(auto)]
+
 // What an image says: its slots and blocks, where a number is live, and whether the image is well formed.
 // Nothing here changes a word.
 pub mod slots;
 
 // What a slot is. Superseded (K4) it is by the other entries of the image: its own never say so.
-#[derive(Drop)]
+#[derive(Clone, Copy)]
 pub enum Slot {
     Free,
     Live(u32),
@@ -13,14 +15,14 @@ pub enum Slot {
 }
 
 // Where a number is live: block and slot, or that it is live nowhere.
-#[derive(Drop)]
+#[derive(Clone, Copy)]
 pub enum Found {
     At(usize, usize),
     Nothing,
 }
 
 // How many slots of a block are free, live and dead.
-#[derive(Drop)]
+#[derive(Clone, Copy)]
 pub struct Tally {
     pub free: u32,
     pub live: u32,
@@ -28,7 +30,7 @@ pub struct Tally {
 }
 
 // What the check names (K1): a block and the rule that fails there, by its number; two zeros where nothing fails.
-#[derive(Drop)]
+#[derive(Clone, Copy)]
 pub struct Fault {
     pub block: u32,
     pub rule: u32,

@@ -1,3 +1,5 @@
+#![tactic(auto)]
+
 // Whether a repair can mend an image, and which block it would empty (K4): told from the image before it, by the real kinds of its slots.
 ghost use Rattle.std.specs.Prelude.{true, ◌||◌, ◌≡◌, suc, ◌<◌};
 ghost use Rattle.image.specs.Words.{Shaped};

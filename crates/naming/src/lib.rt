@@ -1,3 +1,5 @@
+#![tactic(auto)]
+
 // The first pair of an image that is not sound: each block in turn, by its rules in their order. The kinds of the slots are the real ones here,
 // which the other entries of the image have a say in: so all entries are passed first, and the numbers of the complete ones marked.
 ghost use Rattle.std.specs.Prelude.{true, false, ◌≡◌, suc, ◌<◌};

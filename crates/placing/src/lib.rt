@@ -1,3 +1,5 @@
+#![tactic(auto)]
+
 // Placing a sector in a slot, (a) to (g), and releasing one: as many of the steps as are left of those that a call may do (K4). A function
 // that changes the image returns how many are left then; a whole call has more than any needs.
 ghost use Rattle.std.specs.Prelude.{Bool, true, ◌≡◌, ℕ, ◌-◌, ◌<◌, length};

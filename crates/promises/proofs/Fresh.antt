@@ -21,7 +21,7 @@ use Rattle.image.specs.declared.Slot.TheVariants.{Free}
 use Rattle.image.specs.Words.{Image, Shaped, Words32, word, erase_count, least_mapped, greatest_mapped, free_map, map_bit, entry}
 use Rattle.image.specs.Slots.{own_slot, slot, is_free, is_faulty, map_of}
 use Rattle.image.specs.Blocks.{blank, full, free_slots}
-use Rattle.image.specs.WellFormed.{R6, sound, well_formed, NoneSuperseded}
+use Rattle.image.specs.WellFormed.{R6, well_formed, NoneSuperseded}
 use Rattle.image.proofs.Entries.{free-slot}
 use Rattle.image.proofs.Own.{none-superseded, each-own}
 use Rattle.image.proofs.Facts.{Sound, facts-formed}

@@ -1,3 +1,5 @@
+#![tactic(auto)]
+
 // A script's records (docs/FORMAT.md, The script program): what the bytes of one say, and what it does to the script's image and to its L, the number
 // of logical sectors. The crate `text` goes from the bytes that are read to those that are printed.
 ghost use Rattle.std.specs.Prelude.{◌≡◌, ◌+◌, ◌≤◌};
@@ -11,7 +13,7 @@ use calls::{Outcome, Totals};
 use geometry::Geometry;
 
 // The three numbers of a record.
-#[derive(Drop)]
+#[derive(Clone, Copy)]
 pub struct Record {
     pub operation: u32,
     pub number: u32,
@@ -19,7 +21,7 @@ pub struct Record {
 }
 
 // What a line says. The letter is in ASCII.
-#[derive(Drop)]
+#[derive(Clone, Copy)]
 pub struct Line {
     pub letter: u8,
     pub number: u32,

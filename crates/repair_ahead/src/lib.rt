@@ -1,3 +1,5 @@
+#![tactic(auto)]
+
 // One step of a repair, told from the image before it: nothing of the image is changed or copied (K4).
 pub mod bounds;
 pub mod counts;
@@ -10,7 +12,7 @@ pub mod single;
 use flash::Step;
 
 // The parts of a repair that are told block by block: (i), (ii) and (iii).
-#[derive(Drop)]
+#[derive(Clone, Copy)]
 pub enum Part {
     Retires,
     Bounds,
@@ -18,7 +20,7 @@ pub enum Part {
 }
 
 // Step i of a list that others follow: that step, or how far behind the list's end i lies.
-#[derive(Drop)]
+#[derive(Clone, Copy)]
 pub enum Sought {
     Found(Step),
     Behind(u32),

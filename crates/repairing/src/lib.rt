@@ -1,3 +1,5 @@
+#![tactic(auto)]
+
 // A repair (K4): what it decides before its first step, and then (i) to (iv), one after the other, as far as steps are left.
 ghost use Rattle.std.specs.Prelude.{true, false, ◌≡◌, ◌-◌, ◌<◌, ◌≤◌, length};
 ghost use Rattle.geometry.specs.Geometry.{d};
@@ -21,7 +23,7 @@ use writing::reclaiming::{copy_live, erase_victim};
 
 // How a repair goes about it: (i) to (iii), as a block is blank; these and then this block is emptied; or not at all, since there is no room for what
 // is live in that block, or it cannot be erased once more.
-#[derive(Drop)]
+#[derive(Clone, Copy)]
 pub enum RepairPlan {
     Mend,
     Empty(usize),

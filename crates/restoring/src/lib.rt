@@ -1,3 +1,5 @@
+#![tactic(auto)]
+
 // (ii) and (iii) of a repair (K4): words 1 and 2 of full blocks, and the count of a blank block, that were not programmed are. A function that changes
 // the image does as many steps as are left of those that the call may do, and returns how many are left then.
 ghost use Rattle.std.specs.Prelude.{true, cond, [], ◌∷◌, ◌++◌, ◌≡◌, ◌-◌, ◌<◌, length};

@@ -1,3 +1,5 @@
+#![tactic(auto)]
+
 // (i) of a repair (K4): superseded entries are made invalid, block by block and slot by slot, as many as there are steps left for. No complete
 // entry changes, so the numbers that have one are marked once.
 ghost use Rattle.std.specs.Prelude.{◌≡◌, ◌-◌, ◌<◌, length};

@@ -1,3 +1,5 @@
+#![tactic(auto)]
+
 // Each rule of a block by itself, as far as the block alone decides it: R1 to R4, and R7 by the slots' own kinds. And the marks that R5 is
 // checked by: a bit for each number.
 ghost use Rattle.std.specs.Prelude.{Bool, true, not, ◌||◌, ◌≡◌, ℕ, ◌*◌, ◌<◌, eqb, length};

@@ -1,34 +1,65 @@
+#![tactic(auto)]
+
 // Runs a script: records of 12 bytes from standard input, a line for each on standard output, and the totals at the end. What the bytes of a record do,
 // and the bytes of each line, are functions of the crate `text`, with contracts. Here bytes are read and written: a line in one write.
-use libc::{STDIN_FILENO, STDOUT_FILENO};
+use std::io;
+use std::io::{Read, Write};
+
+// As it always was, a write that fails is passed over.
+fn put<W: Write>(output: &mut W, bytes: &[u8]) {
+    let _ = output.write_all(bytes);
+}
+
+// Reads until the buffer is full, the input ends or a read fails. Answers how many bytes came.
+fn read_full<R: Read>(input: &mut R, bytes: &mut [u8; 12]) -> usize {
+    let mut came = 0;
+    for _ in 0..12 {
+        if came >= 12 {
+            break;
+        }
+        match input.read(&mut bytes[came..]) {
+            Ok(0) | Err(_) => break,
+            Ok(n) => came += n,
+        }
+    }
+    came
+}
 
 // Reads a record, carries it out and prints its line. Answers whether more may follow: not after the input's end or a short record.
-fn step(image: &mut [u32], logical: &mut u32) -> bool {
+fn step<R: Read, W: Write>(
+    input: &mut R,
+    output: &mut W,
+    image: &mut [u32],
+    logical: &mut u32,
+) -> bool {
     let mut bytes = [0u8; 12];
     let mut out = [0u8; text::LONGEST_LINE];
-    let came = io::read_full(STDIN_FILENO, &mut bytes);
+    let came = read_full(input, &mut bytes);
     let count = text::reply(image, logical, &bytes, came, &mut out);
-    io::write_all(STDOUT_FILENO, &out[..count]);
+    put(output, &out[..count]);
     came == 12
 }
 
-// A proved loop has to end, and nothing says that the input does. So the loop counts its turns down, from a number that no run uses up.
-fn run(image: &mut [u32], logical: &mut u32) {
-    let mut turns = u64::MAX;
-    while turns > 0 && step(image, logical) {
-        turns -= 1;
+// A proved loop has to end, and nothing says that the input does. So the loop counts its turns, up to a number that no run uses up.
+fn run<R: Read, W: Write>(input: &mut R, output: &mut W, image: &mut [u32], logical: &mut u32) {
+    for _ in 0..u64::MAX {
+        if !step(input, output, image, logical) {
+            break;
+        }
     }
 }
 
-fn print_totals(image: &[u32], logical: u32) {
+fn print_totals<W: Write>(output: &mut W, image: &[u32], logical: u32) {
     let mut out = [0u8; text::LONGEST_LINE];
     let count = text::last(image, logical, &mut out);
-    io::write_all(STDOUT_FILENO, &out[..count]);
+    put(output, &out[..count]);
 }
 
-fn main() {
+fn main(rt: HostRuntime) {
     let mut image = [0u32; 16384];
     let mut logical = records::start(&mut image);
-    run(&mut image, &mut logical);
-    print_totals(&image, logical);
+    let mut input = rt.reader();
+    let mut output = io::writer(&rt);
+    run(&mut input, &mut output, &mut image, &mut logical);
+    print_totals(&mut output, &image, logical);
 }

@@ -1,3 +1,5 @@
+#![tactic(auto)]
+
 // The calls: each tests its rows of the table of refusals (docs/FORMAT.md, Refusals), in the order there, and then does its work.
 // Any geometry, image, number or buffer may be handed in; a refused call changes no word. One that refuses with 4 passes on the first block
 // and rule that fail. A read, a write, a release and a repair are those of the crate `calls`, with a lookup table of no words where they take one.

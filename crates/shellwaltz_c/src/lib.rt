@@ -1,3 +1,5 @@
+#![tactic(auto)]
+
 // The calls for C: plain numbers, an image or a buffer as a pointer and a length in words, counts and the bad block and rule (K1) through
 // pointers, and the answer's number in the table of refusals (FORMAT.md, Refusals). include/shellwaltz.h is their header. Each contract is
 // that of the call it passes on to, for any three 32-bit numbers as geometry.

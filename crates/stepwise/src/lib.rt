@@ -1,3 +1,5 @@
+#![tactic(auto)]
+
 // K4: a write, a release and a repair step by step. One step of it is told from the image before the call, which stays as it is; or its first steps are
 // carried out, by the code of the whole call. Each refuses as the whole call does, and a refused one has no step.
 ghost use Rattle.std.specs.Prelude.{◌≡◌};
@@ -10,7 +12,7 @@ use flash::NextStep;
 use geometry::Geometry;
 
 // What a call for one step gives: the whole call's answer; and the step, or that the call is done before it.
-#[derive(Drop)]
+#[derive(Clone, Copy)]
 pub struct Stepped {
     pub answer: Answer,
     pub next: NextStep,

@@ -1,3 +1,5 @@
+#![tactic(auto)]
+
 // K2: the calls with a lookup table, which the caller lends. Each is the call without one (shellwaltz), and whatever the table holds, what is
 // answered, reported and left of image and buffer is what that call gives; a table of another length is refused, and a refused call leaves it alone.
 ghost use Rattle.std.specs.Prelude.{◌≡◌};

@@ -1,3 +1,5 @@
+#![tactic(auto)]
+
 // The lookup table that a caller may lend (K2): looked at, kept up and built. A call that is lent none hands on one of no words: there no
 // number has a word, so that nothing is looked at and nothing kept up.
 ghost use Rattle.std.specs.Prelude.{◌&&◌, true, ◌≡◌, ◌<◌, ◌/◌, ◌%◌, ltb, length, replicate, set};

@@ -1,3 +1,5 @@
+#![tactic(auto)]
+
 // What the script program prints (docs/FORMAT.md, The script program), from the bytes of a record to those of its line, and the line of the totals.
 // Each line goes to the start of a buffer that the caller lends.
 ghost use Rattle.std.specs.Prelude.{◌≡◌, ◌+◌, ◌*◌, ◌≤◌, ◌<◌, length, set};

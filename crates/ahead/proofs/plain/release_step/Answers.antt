@@ -1,0 +1,34 @@
+-- `ahead::plain::release_step` meets its contract: the entry that was found is asked for once, and then nothing.
+use mathlib.Core.Path.{◌≡◌, sym, ap, ap₂, ◌∙◌}
+use mathlib.Core.List.{[]}
+use Prim.Native.Nat.{ℕ}
+use native.Mathlib.Omega.{arith}
+use Rattle.bits.specs.Word.{cleared}
+use Rattle.image.specs.declared.Found.{Found}
+use Rattle.image.specs.Slots.{valid_bit}
+use Rattle.flash.specs.declared.NextStep.TheVariants.{Next}
+use Rattle.flash.specs.declared.Step.TheVariants.{Program}
+use Rattle.flash.specs.Steps.{step_at}
+use Rattle.flash.specs.Placing.{invalidates}
+use Rattle.flash.proofs.Parts.{step_past}
+use Rattle.ahead.proofs.PlacementLaws.{found-place-small}
+use Rattle.ahead.proofs.plain.release_step.Goals as goal
+
+pub overflow_add-at : goal.overflow_add-at
+overflow_add-at c = omega (arith, c.entries_start.ensures, found-place-small c.args.geo c.requires.shaped.limits c.requires.in_image c.in-At.is)
+
+pub returns-then-i-eq0 : goal.returns-then-i-eq0
+unfolding step_at
+returns-then-i-eq0 c =
+    let a = c.args in
+    let first : a.i ≡ 0 = omega (arith, c.if-i-eq0.true) in
+    ap₂ (λ (at w : ℕ). Next (Program at w))
+    (omega (arith, c.entries_start.ensures))
+    (c.clear_bit-invalid.ensures ∙ ap (λ (w : ℕ). cleared w valid_bit) c.entry_at.ensures)
+    ∙ sym (ap₂ (λ (live : Found) (s : ℕ). step_at (invalidates a.geo a.image.now live) s) c.in-At.is first)
+
+pub returns-else-i-eq0 : goal.returns-else-i-eq0
+returns-else-i-eq0 c = rw c.in-At.is (sym (step_past _ _ (omega (arith, c.if-i-eq0.false))))
+
+pub returns-in-Nothing : goal.returns-in-Nothing
+returns-in-Nothing c = rw c.in-Nothing.is (sym (step_past [] _ (omega arith)))

@@ -1,0 +1,16 @@
+-- `naming::first_bad` meets its contract: the blocks passed are sound and the marks know their numbers; a block that is not decides, and
+-- the image has one.
+use mathlib.Core.Path.{◌≡◌}
+use mathlib.Core.Bool.{true}
+use Prim.Native.Nat.{◌-◌, ◌≤◌}
+use Rattle.ranges.specs.Range.{all_below}
+use Rattle.image.specs.Slots.{slot}
+use Rattle.image.specs.WellFormed.{sound_block}
+use Rattle.rules.specs.Marks.{Marks}
+use Rattle.naming.proofs.first_bad.Given as goal
+
+abbrev pub invariant-loop-b : goal.invariant-loop-b
+invariant-loop-b l = (l.b ≤ l.blocks) × Marks l.geo (slot l.geo l.image) l.b 0 l.marks × (all_below l.b (sound_block l.geo l.image) ≡ true)
+
+abbrev pub decreases-loop-b : goal.decreases-loop-b
+decreases-loop-b l = l.blocks - l.b
