@@ -26,7 +26,8 @@
  * some block is blank, is the whole image's: it is named last, with `blocks` as the bad block. With every other answer, *bad_block and
  * *bad_rule are 0.
  *
- * The contract of each function of the first layer is proved for every input: crates/shellwaltz_c/src has it as equations. */
+ * The contract of each function of the first layer is proved for every input: crates/shellwaltz_c/src has it as equations, and so has
+ * crates/shellwaltz_archive/src, whose functions, each a call of those, are the ones that are linked. */
 #ifndef SHELLWALTZ_H
 #define SHELLWALTZ_H
 

@@ -1,6 +1,6 @@
 # Read by the scripts beside it. The library and the programs are compiled for x86-64. This says how C that links with them is compiled and
 # how a program for x86-64 is run here: `build_c OUT FILES..` and `run86 PROGRAM ARGS..`; and `need_c` installs what that needs.
-# On an Arm machine a cross compiler builds and the kit's own emulator runs; elsewhere both are direct.
+# On an Arm machine a cross compiler builds and an emulator runs that the older kit had, and today's has not; elsewhere both are direct.
 # `build_safe OUT FILES..` is for a program that the machine runs itself, under the sanitizers: it links the library; on an Arm machine, where
 # that cannot be, the second implementation under the library's names.
 kit=${RATTLE_HOME:-$(cd "$(dirname "$(readlink -f "$(command -v rt)")")/.." && pwd -P)}

@@ -20,7 +20,7 @@ is_set w j = eqb (bit w j) 1
 unfoldable pub cleared : ℕ → ℕ → ℕ
 cleared w j = w - bit w j * 2 ^ j
 
--- The lowest m bits that two words share. (The library's bitAnd says the same and does not compute on words: proofs/Programming.antt.)
+-- The lowest m bits that two words share. (The library's bit_and says the same and does not compute on words: proofs/Programming.antt.)
 unfoldable pub shared : ℕ → ℕ → ℕ → ℕ
 shared zero a b = 0
 shared (suc m) a b = shared m (a / 2) (b / 2) * 2 + min (a % 2) (b % 2)

@@ -19,7 +19,7 @@ use Rattle.geometry.proofs.Laws.{logical-small, management-fits, map-word-inside
 use Rattle.image.specs.declared.Slot.TheVariants.{Free, Live}
 use Rattle.image.specs.declared.Found.{Found}
 use Rattle.image.specs.declared.Found.TheVariants.{At, Nothing}
-use Rattle.image.specs.Words.{Image, Shaped, Words32, word, free_map, entry, contents}
+use Rattle.image.specs.Words.{Image, Shaped, Words32, word, free_map, entry}
 use Rattle.image.specs.Slots.{valid_bit, current_bit, slot, is_free, find}
 use Rattle.image.specs.Blocks.{full}
 use Rattle.image.proofs.Own.{free-read}

@@ -3,7 +3,6 @@ use mathlib.Core.Path.{◌≡◌}
 use Prim.Native.Nat.{◌+◌, ◌-◌, ◌<◌}
 use Rattle.ranges.specs.Range.{sum_below}
 use Rattle.bits.specs.Word.{set_bits}
-use Rattle.geometry.specs.Geometry.{k}
 use Rattle.image.specs.Words.{word}
 use Rattle.blocks.proofs.free_slots.Given as goal
 

@@ -2,7 +2,6 @@
 use mathlib.Core.Path.{◌≡◌}
 use Prim.Native.Nat.{◌-◌, ◌<◌, ◌≤◌}
 use Rattle.ranges.specs.Range.{count_below}
-use Rattle.geometry.specs.Geometry.{d}
 use Rattle.image.specs.Slots.{is_live}
 use Rattle.image.proofs.Reading.{slot_from}
 use Rattle.blocks.proofs.live_slots.Given as goal

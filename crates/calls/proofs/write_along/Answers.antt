@@ -89,7 +89,7 @@ reclaim_and_fill-done-requires-clause-n_lt_logical c = let a = c.args in
     let accepted = (reclaiming-it (goal.at.reclaim_and_fill-done-requires-clause-n_lt_logical c).In-Reclaim).0 in
     let said = write-accepted a.geo a.image.now a.n a.buffer.now accepted in
     let sized = write-sized a.geo a.image.now a.n a.buffer.now accepted in
-    sized.0
+    omega (arith, sized.0)
 
 pub reclaim_and_fill-done-requires-clause-shaped : goal.reclaim_and_fill-done-requires-clause-shaped
 reclaim_and_fill-done-requires-clause-shaped c = let a = c.args in

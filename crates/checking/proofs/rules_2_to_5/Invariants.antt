@@ -4,7 +4,6 @@ use mathlib.Core.Path.{◌≡◌}
 use mathlib.Core.Bool.{true}
 use Prim.Native.Nat.{◌-◌, ◌≤◌}
 use Rattle.ranges.specs.Range.{all_below}
-use Rattle.geometry.specs.Geometry.{d}
 use Rattle.image.specs.Slots.{own_slot}
 use Rattle.rules.specs.Marks.{Marks}
 use Rattle.checking.proofs.CheckLaws.{keeps}

@@ -2,7 +2,6 @@
 use mathlib.Core.Path.{◌≡◌}
 use Prim.Native.Nat.{◌-◌, ◌≤◌}
 use Rattle.ranges.specs.Range.{count_below}
-use Rattle.geometry.specs.Geometry.{d}
 use Rattle.image.specs.Slots.{slot, is_live}
 use Rattle.mending.proofs.live_judged.Given as goal
 

@@ -1,7 +1,7 @@
 -- `naming::first_bad` meets its contract: the blocks passed are sound and the marks know their numbers; a block that is not decides, and
 -- the image has one.
 use mathlib.Core.Path.{◌≡◌, refl, sym, ap, ◌∙◌}
-use mathlib.Core.Bool.{true, true≢false}
+use mathlib.Core.Bool.{true≢false}
 use native.Mathlib.Numerals.{add-one}
 use native.Mathlib.Omega.{arith}
 use borrow.Author.Tests.{eq-eqb}

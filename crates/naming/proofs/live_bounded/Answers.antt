@@ -1,6 +1,6 @@
 -- `naming::live_bounded` meets its contract: the live numbers of the slots passed lie between the two words, and the first that does not decides.
 use mathlib.Core.Path.{◌≡◌, refl, sym, ap, ◌∙◌}
-use mathlib.Core.Bool.{Bool, true, not}
+use mathlib.Core.Bool.{Bool, not}
 use native.Mathlib.Omega.{arith}
 use Rattle.ranges.specs.Range.{all_below}
 use Rattle.ranges.proofs.Tests.{not-all}

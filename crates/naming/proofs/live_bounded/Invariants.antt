@@ -3,7 +3,6 @@ use mathlib.Core.Path.{◌≡◌}
 use mathlib.Core.Bool.{true, not}
 use Prim.Native.Nat.{◌-◌, ◌≤◌}
 use Rattle.ranges.specs.Range.{all_below}
-use Rattle.geometry.specs.Geometry.{d}
 use Rattle.image.specs.Slots.{slot, is_live_with}
 use Rattle.image.specs.WellFormed.{outside}
 use Rattle.naming.proofs.live_bounded.Given as goal

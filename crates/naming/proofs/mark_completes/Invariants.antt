@@ -1,6 +1,5 @@
 -- `naming::mark_completes` meets its contract: the marks know the complete entries of the slots passed.
 use Prim.Native.Nat.{◌-◌, ◌≤◌}
-use Rattle.geometry.specs.Geometry.{d}
 use Rattle.rules.specs.Marks.{Marks}
 use Rattle.naming.specs.Completes.{complete_slot}
 use Rattle.naming.proofs.mark_completes.Given as goal

@@ -1,6 +1,6 @@
 -- `naming::rule8` meets its contract: no slot passed is superseded, and the first that is decides.
 use mathlib.Core.Path.{◌≡◌, refl, sym, ap, ◌∙◌}
-use mathlib.Core.Bool.{Bool, false, not}
+use mathlib.Core.Bool.{Bool, not}
 use native.Mathlib.Numerals.{add-one}
 use native.Mathlib.Omega.{arith}
 use Rattle.ranges.specs.Range.{any_below}

@@ -3,7 +3,6 @@ use mathlib.Core.Path.{◌≡◌}
 use mathlib.Core.Bool.{false}
 use Prim.Native.Nat.{◌-◌, ◌≤◌}
 use Rattle.ranges.specs.Range.{any_below}
-use Rattle.geometry.specs.Geometry.{d}
 use Rattle.image.specs.Slots.{superseded}
 use Rattle.naming.proofs.rule8.Given as goal
 

@@ -1,6 +1,6 @@
 -- `rules::map_agrees` meets its contract: the test passes at every slot passed, and decides at the first where it fails.
 use mathlib.Core.Path.{◌≡◌, refl, sym, ap, ◌∙◌}
-use mathlib.Core.Bool.{true, not, ◌&&◌, not-not}
+use mathlib.Core.Bool.{not, ◌&&◌, not-not}
 use Prim.Native.Nat.{◌+◌, ◌<◌}
 use native.Mathlib.Omega.{arith}
 use lib.Dec.{eqb}

@@ -7,7 +7,6 @@ use lib.Dec.{eqb}
 use lib.ListN.{get_or}
 use Rattle.ranges.specs.Range.{all_below}
 use Rattle.bits.specs.Word.{ones, is_set}
-use Rattle.geometry.specs.Geometry.{d}
 use Rattle.rules.proofs.map_agrees.Given as goal
 
 -- that slot i fails the test, as the code reads it

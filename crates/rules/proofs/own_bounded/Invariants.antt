@@ -4,7 +4,6 @@ use mathlib.Core.Bool.{Bool, not}
 use Prim.Native.Nat.{ℕ, ◌+◌, ◌-◌, ◌≤◌}
 use lib.ListN.{get_or}
 use Rattle.ranges.specs.Range.{all_below}
-use Rattle.geometry.specs.Geometry.{d}
 use Rattle.image.specs.declared.Slot.{Slot}
 use Rattle.image.specs.Slots.{slot_of, is_live_with}
 use Rattle.image.specs.WellFormed.{outside}

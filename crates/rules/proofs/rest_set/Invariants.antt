@@ -6,7 +6,6 @@ use Prim.Native.Nat.{ℕ, ◌+◌, ◌-◌, ◌/◌, ◌%◌, ◌≤◌}
 use lib.ListN.{get_or}
 use Rattle.ranges.specs.Range.{all_below}
 use Rattle.bits.specs.Word.{is_set}
-use Rattle.geometry.specs.Geometry.{d}
 use Rattle.rules.proofs.rest_set.Given as goal
 
 -- the bit of i, as the code reads it

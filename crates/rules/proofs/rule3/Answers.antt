@@ -1,6 +1,5 @@
 -- `rules::rule3` meets its contract: the test passes at every slot passed, and the first free slot with a word that is not ones decides.
 use mathlib.Core.Path.{◌≡◌, refl, sym, ◌∙◌}
-use mathlib.Core.Bool.{true}
 use native.Mathlib.Omega.{arith}
 use Rattle.ranges.specs.Range.{◌implies◌, all_below}
 use Rattle.ranges.proofs.Tests.{not-all}

@@ -3,7 +3,6 @@ use mathlib.Core.Path.{◌≡◌}
 use mathlib.Core.Bool.{true}
 use Prim.Native.Nat.{◌-◌, ◌≤◌}
 use Rattle.ranges.specs.Range.{all_below}
-use Rattle.geometry.specs.Geometry.{d}
 use Rattle.rules.proofs.RuleLaws.{proper}
 use Rattle.rules.proofs.rule4.Given as goal
 

@@ -1,6 +1,5 @@
 -- `image::slots::find` meets its contract: no slot that the search has passed is live for n, so the first whose entry, without bit 30, is the
 -- word of n is the definition's, and where there is none the definition finds nothing.
-use mathlib.Core.Bool.{false}
 use mathlib.Core.Path.{◌≡◌, refl, sym, ◌∙◌}
 use Prim.Native.Nat.{◌+◌, ◌%◌, ◌<◌}
 use native.Mathlib.Omega.{arith}

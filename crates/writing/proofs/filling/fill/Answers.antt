@@ -1,5 +1,6 @@
 -- `writing::filling::fill` meets its contract: the slot that it asks for is a free one of the image, and n is placed there.
 use mathlib.Core.Path.{◌≡◌, sym, ◌∙◌}
+use native.Mathlib.Omega.{arith}
 use Rattle.geometry.proofs.Laws.{d-positive}
 use Rattle.image.specs.declared.Found.TheVariants.{At}
 use Rattle.image.proofs.Facts.{sound-facts, sound-maps, formed-sound, formed-blank}
@@ -22,7 +23,7 @@ place-requires-clause-b_lt_blocks c = let f = next-free _ _ (formed-blank _ _ c.
 
 pub place-requires-clause-i_bound : goal.place-requires-clause-i_bound
 place-requires-clause-i_bound c = let f = next-free _ _ (formed-blank _ _ c.requires.image_value) (d-positive _ c.requires.shaped.limits) _ _ (found (goal.at.place-requires-clause-i_bound c).In-At) in
-    f.1
+    omega (arith, f.1)
 
 pub place-requires-clause-i_value : goal.place-requires-clause-i_value
 place-requires-clause-i_value c = let f = next-free _ _ (formed-blank _ _ c.requires.image_value) (d-positive _ c.requires.shaped.limits) _ _ (found (goal.at.place-requires-clause-i_value c).In-At) in

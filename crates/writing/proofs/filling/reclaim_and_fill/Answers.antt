@@ -197,7 +197,9 @@ pub erase_victim-left_erased-requires-clause-count_lt_ceiling : goal.erase_victi
 erase_victim-left_erased-requires-clause-count_lt_ceiling c = let r = planned-so (goal.at.erase_victim-left_erased-requires-clause-count_lt_ceiling c).After-slice_known-1 in omega (arith, r.victim-is.wearable, c.erase_count-count.ensures)
 
 pub erase_victim-left_erased-requires-clause-v_lt_blocks : goal.erase_victim-left_erased-requires-clause-v_lt_blocks
-erase_victim-left_erased-requires-clause-v_lt_blocks c = let r = planned-so (goal.at.erase_victim-left_erased-requires-clause-v_lt_blocks c).After-slice_known-1 in r.victim-is.block
+erase_victim-left_erased-requires-clause-v_lt_blocks c = let a = c.args in
+    let r = planned-so (goal.at.erase_victim-left_erased-requires-clause-v_lt_blocks c).After-slice_known-1 in
+    let least = c.least_worn_blank-blank.ensures in omega (arith, r.victim-is.block, least, blank-in a.geo a.image.now r.ready r.must a.v r.victim-is)
 
 pub returns-then-left_erased-eq0-clause-image_after : goal.returns-then-left_erased-eq0-clause-image_after
 returns-then-left_erased-eq0-clause-image_after c = let a = c.args in
