@@ -5,11 +5,6 @@
 use std::io;
 use std::io::{Read, Write};
 
-// As it always was, a write that fails is passed over.
-fn put<W: Write>(output: &mut W, bytes: &[u8]) {
-    let _ = output.write_all(bytes);
-}
-
 // Reads until the buffer is full, the input ends or a read fails. Answers how many bytes came.
 fn read_full<R: Read>(input: &mut R, bytes: &mut [u8; 12]) -> usize {
     let mut came = 0;
@@ -25,41 +20,48 @@ fn read_full<R: Read>(input: &mut R, bytes: &mut [u8; 12]) -> usize {
     came
 }
 
-// Reads a record, carries it out and prints its line. Answers whether more may follow: not after the input's end or a short record.
+// Reads a record, carries it out and prints its line. Answers whether more may follow: not after the input's end or a short record. A write that fails
+// is the error that main returns.
 fn step<R: Read, W: Write>(
     input: &mut R,
     output: &mut W,
     image: &mut [u32],
     logical: &mut u32,
-) -> bool {
+) -> io::Result<bool> {
     let mut bytes = [0u8; 12];
     let mut out = [0u8; text::LONGEST_LINE];
     let came = read_full(input, &mut bytes);
     let count = text::reply(image, logical, &bytes, came, &mut out);
-    put(output, &out[..count]);
-    came == 12
+    output.write_all(&out[..count])?;
+    Ok(came == 12)
 }
 
 // A proved loop has to end, and nothing says that the input does. So the loop counts its turns, up to a number that no run uses up.
-fn run<R: Read, W: Write>(input: &mut R, output: &mut W, image: &mut [u32], logical: &mut u32) {
+fn run<R: Read, W: Write>(
+    input: &mut R,
+    output: &mut W,
+    image: &mut [u32],
+    logical: &mut u32,
+) -> io::Result<()> {
     for _ in 0..u64::MAX {
-        if !step(input, output, image, logical) {
+        if !step(input, output, image, logical)? {
             break;
         }
     }
+    Ok(())
 }
 
-fn print_totals<W: Write>(output: &mut W, image: &[u32], logical: u32) {
+fn print_totals<W: Write>(output: &mut W, image: &[u32], logical: u32) -> io::Result<()> {
     let mut out = [0u8; text::LONGEST_LINE];
     let count = text::last(image, logical, &mut out);
-    put(output, &out[..count]);
+    output.write_all(&out[..count])
 }
 
-fn main(rt: HostRuntime) {
+fn main(rt: HostRuntime) -> io::Result<()> {
     let mut image = [0u32; 16384];
     let mut logical = records::start(&mut image);
-    let mut input = rt.reader();
+    let mut input = rt.stdin();
     let mut output = io::writer(&rt);
-    run(&mut input, &mut output, &mut image, &mut logical);
-    print_totals(&mut output, &image, logical);
+    run(&mut input, &mut output, &mut image, &mut logical)?;
+    print_totals(&mut output, &image, logical)
 }
