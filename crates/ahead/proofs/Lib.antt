@@ -1,3 +1,4 @@
 pub mod StepLaws
 pub mod PlacementLaws
 pub mod ReclaimLaws
+pub mod Links

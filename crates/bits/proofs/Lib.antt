@@ -3,3 +3,4 @@ pub mod Upper
 pub mod Clearing
 pub mod Programming
 pub mod Counting
+pub mod Links

@@ -1,2 +1,3 @@
 pub mod FreeMap
 pub mod Choosing
+pub mod Links

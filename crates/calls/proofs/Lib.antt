@@ -3,3 +3,4 @@ pub mod CallLaws
 pub mod Changing
 pub mod AcceptedCalls
 pub mod Courses
+pub mod Links

@@ -8,6 +8,7 @@ use seplogic.Ra.Ura.{Ura}
 use base.Logic.{SProp, ent, emp, id⊢}
 use base.Stored.{Coded, Coded-set, coded_unit, coded_ℕ, coded_list, coded×}
 use prog.Model.{Model}
+use prog.Routine.{Env}
 use prog.Wired.{Wired}
 use types.Logic.{Logic}
 use contract.Monad.{fact}
@@ -58,7 +59,7 @@ unfolding seplogic.Bi.Sat.Sat
 can-be w p = seplogic.Bi.Sat.mono w.𝓤.op p (∣ (w.𝓤.one, tt) ∣₁)
 
 -- ---- the law. It takes what the parameters leave, the outcome of each call, that the clauses ask nothing, that they are the equations of that
--- outcome, and the function's theorem.
+-- outcome, the function's theorem, and an environment that has its code.
 module _ (f : Function) where
   pub determined :
       (lasts : (c : Call f) → Coded (Lasts f.ended c.0 c.1))
@@ -70,10 +71,12 @@ module _ (f : Function) where
       Wired 𝓡.env f.code →
       Meets 𝓛 f.ended.signature (𝓡.run (𝓡.env f.name))
       (closing 𝓛 f.ended (f.clauses M 𝓤 𝓛 𝓜.mem 𝓡.returns))) →
+      (runs : (γ : Env) × Wired γ f.code) →
       Determined f
-  determined lasts outcome any_input one_outcome met =
+  determined lasts outcome any_input one_outcome met runs =
       record {
         met = λ w. met w.M w.𝓤 w.𝓛 w.𝓜 w.𝓡;
+        runs = runs;
         any_input = any_input;
         an_outcome =
             λ c.

@@ -2,7 +2,8 @@
 -- here what the toolchain makes of the clauses in the source, so one that is dropped or weakened there makes its line of `EveryContract` false.
 --
 -- To add a public function: give it no `requires`, and as `ensures` equations whose right sides name the arguments alone, one for the result
--- and then one for each `&mut` parameter, in the parameters' order. Name it here, and add a line to `EveryContract` and one to its proof.
+-- and then one for each `&mut` parameter, in the parameters' order. Name it here, add a line to `EveryContract` and one to its proof,
+-- and run tools/links.py.
 use Rattle.determined.specs.Determined.{Function, Determined}
 use Rattle.answers.specs.contracts as answers
 use Rattle.answers.proofs as answers_code

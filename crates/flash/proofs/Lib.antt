@@ -25,3 +25,4 @@ pub mod Tables
 pub mod Invalidated
 pub mod Released
 pub mod Planned
+pub mod Links

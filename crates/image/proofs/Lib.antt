@@ -9,3 +9,4 @@ pub mod Capacity
 pub mod Faults
 pub mod Mending
 pub mod Emptiest
+pub mod Links

@@ -1,1 +1,2 @@
 pub mod CompleteLaws
+pub mod Links

@@ -1,1 +1,2 @@
 pub mod BoundLaws
+pub mod Links

@@ -4,3 +4,4 @@ pub mod EmptyingLaws
 pub mod BothLaws
 pub mod ToCopy
 pub mod WholeLaws
+pub mod Links

@@ -6,3 +6,4 @@ pub mod Carried
 pub mod Costs
 pub mod Careful
 pub mod Within
+pub mod Links

@@ -1,3 +1,4 @@
 pub mod LowWords
 pub mod Bounded
 pub mod Counted
+pub mod Links

@@ -1,3 +1,4 @@
 pub mod Retired
 pub mod Kept
 pub mod CodeLaws
+pub mod Links

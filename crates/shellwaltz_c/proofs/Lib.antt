@@ -1,1 +1,2 @@
 pub mod SameCalls
+pub mod Links

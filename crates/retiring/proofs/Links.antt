@@ -1,0 +1,21 @@
+-- What `determined` takes of this crate, to show that there is an environment that has the code of the public functions: the table of the crate's
+-- functions; what they call in the crates below, `Below`; and of the functions that are called from above, that a look-up that has both has their
+-- code, with the code of all that they call. The toolchain makes all of it, in a module that only this crate can name. Written by tools/links.py.
+-- Assumes nothing.
+use mathlib.Core.Bool.{true}
+use prog.Wired.{Code}
+use prog.Linked.{World, Tree, Holds, in_world}
+use prog.LinkedThreads.{HasT}
+use Rattle.retiring.proofs.TheLink as made
+
+abbrev pub table : Tree
+table = made.table
+
+abbrev pub Below : World → Type 0
+Below = made.Below
+
+abbrev pub Linked : Code → Type 0
+Linked c = (W : World) → Holds W "retiring" table → Below W → HasT (in_world W) true c
+
+pub retire_superseded : Linked Rattle.retiring.proofs.retire_superseded.Symbol.code
+retire_superseded = made.linked-retiring::retire_superseded

@@ -1,0 +1,39 @@
+-- What `determined` takes of this crate, to show that there is an environment that has the code of the public functions: the table of the crate's
+-- functions; what they call in the crates below, `Below`; and of the functions that are called from above, that a look-up that has both has their
+-- code, with the code of all that they call. The toolchain makes all of it, in a module that only this crate can name. Written by tools/links.py.
+-- Assumes nothing.
+use mathlib.Core.Bool.{true}
+use prog.Wired.{Code}
+use prog.Linked.{World, Tree, Holds, in_world}
+use prog.LinkedThreads.{HasT}
+use Rattle.shellwaltz.proofs.TheLink as made
+
+abbrev pub table : Tree
+table = made.table
+
+abbrev pub Below : World → Type 0
+Below = made.Below
+
+abbrev pub Linked : Code → Type 0
+Linked c = (W : World) → Holds W "shellwaltz" table → Below W → HasT (in_world W) true c
+
+pub check : Linked Rattle.shellwaltz.proofs.check.Symbol.code
+check = made.linked-shellwaltz::check
+
+pub read : Linked Rattle.shellwaltz.proofs.read.Symbol.code
+read = made.linked-shellwaltz::read
+
+pub release : Linked Rattle.shellwaltz.proofs.release.Symbol.code
+release = made.linked-shellwaltz::release
+
+pub repair : Linked Rattle.shellwaltz.proofs.repair.Symbol.code
+repair = made.linked-shellwaltz::repair
+
+pub report : Linked Rattle.shellwaltz.proofs.report.Symbol.code
+report = made.linked-shellwaltz::report
+
+pub write : Linked Rattle.shellwaltz.proofs.write.Symbol.code
+write = made.linked-shellwaltz::write
+
+pub format : Linked Rattle.shellwaltz.proofs.format.Symbol.code
+format = made.linked-shellwaltz::format

@@ -1,0 +1,30 @@
+-- What `determined` takes of this crate, to show that there is an environment that has the code of the public functions: the table of the crate's
+-- functions; what they call in the crates below, `Below`; and of the functions that are called from above, that a look-up that has both has their
+-- code, with the code of all that they call. The toolchain makes all of it, in a module that only this crate can name. Written by tools/links.py.
+-- Assumes nothing.
+use mathlib.Core.Bool.{true}
+use prog.Wired.{Code}
+use prog.Linked.{World, Tree, Holds, in_world}
+use prog.LinkedThreads.{HasT}
+use Rattle.tabled.proofs.TheLink as made
+
+abbrev pub table : Tree
+table = made.table
+
+abbrev pub Below : World → Type 0
+Below = made.Below
+
+abbrev pub Linked : Code → Type 0
+Linked c = (W : World) → Holds W "tabled" table → Below W → HasT (in_world W) true c
+
+pub read : Linked Rattle.tabled.proofs.read.Symbol.code
+read = made.linked-tabled::read
+
+pub release : Linked Rattle.tabled.proofs.release.Symbol.code
+release = made.linked-tabled::release
+
+pub write : Linked Rattle.tabled.proofs.write.Symbol.code
+write = made.linked-tabled::write
+
+pub build : Linked Rattle.tabled.proofs.build.Symbol.code
+build = made.linked-tabled::build
