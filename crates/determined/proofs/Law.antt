@@ -17,7 +17,7 @@ use borrow.Fn.World.{World, w₀}
 use denote.Signature.{type_at}
 use denote.Triple.Clauses.{Lasts, closing}
 use denote.Triple.Spec.{Meets}
-use Rattle.determined.specs.Determined.{Function, Call, Outcome, of_call, ensured, Allowed, Determined}
+use Rattle.determined.specs.Determined.{Function, Call, Outcome, within, of_call, ensured, Allowed, Determined}
 use Rattle.determined.proofs.Equations.{Equations, say, hold}
 
 -- ---- what a parameter leaves: values that have a code, so that of two of them an equation has one proof at most
@@ -90,6 +90,14 @@ module _ (f : Function) where
       is-outcome c o (w, g, s) =
           is_true w (Coded-set (coded× (type_at f.ended.signature.result c.0).coded (lasts c)) o (outcome c))
           (seplogic.Bi.Sat.mono w.𝓤.op (say w.𝓤 f c o (outcome c)) (subst (Sat w) (one_outcome w c g o) s))
+
+-- So in that environment a call by the name meets the contract in every model, and nothing is asked of the model's own names.
+pub met_there :
+    (f : Function) (d : Determined f) (w : World) →
+    Meets w.𝓛 f.ended.signature (w.𝓡.run (d.runs.0 f.name)) (closing w.𝓛 f.ended (within f w))
+met_there f d w =
+    let there = contract.Running.within w.𝓤 w.𝓛.H w.𝓜 w.𝓡 d.runs.0 in
+    d.met (record { M = w.M; 𝓤 = w.𝓤; 𝓛 = w.𝓛; 𝓜 = w.𝓜; 𝓡 = there }) d.runs.1
 
 -- for clauses with no `requires`
 abbrev pub nothing : {C : Type 0} (w : World) (c : C) → (g : Unit {0}) × ent w.𝓤 (emp w.𝓤) (emp w.𝓤)
