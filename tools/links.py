@@ -96,8 +96,7 @@ def write(name, text):
             lines.append('pub mod Links')
         lib.write_text('\n'.join(lines) + '\n')
 
-def main():
-    folder = pathlib.Path(sys.argv[1] if len(sys.argv) > 1 else tempfile.mkdtemp())
+def main(folder):
     if any(not (folder / n).exists() for n in chosen):
         set_aside()
     links = {n: l for n in chosen if (l := link(n, folder))}
@@ -174,4 +173,8 @@ pub in_{n} : (c : Code) → {n}.Linked c → Runs c
 in_{n} c has = runs c (has all holds-{n} below-{n})
 """
 
-main()
+if len(sys.argv) > 1:
+    main(pathlib.Path(sys.argv[1]))
+else:
+    with tempfile.TemporaryDirectory() as made:
+        main(pathlib.Path(made))
