@@ -25,8 +25,8 @@ def reach(names):                       # they and all below them
 chosen = [n for n in below if n in reach({top}) - {top}]     # lowest first, as in crates.txt
 
 HEAD = """-- What `determined` takes of this crate, to show that there is an environment that has the code of the public functions: the table of the crate's
--- functions; what they call in the crates below, `Below`; and of the functions that are called from above, that a look-up that has both has their
--- code, with the code of all that they call. The toolchain makes all of it, in a module that only this crate can name. Written by tools/links.py.
+-- functions; what those that are told here call in the crates below, `Below`; and of each of them, that a look-up that has both has its code, with the code
+-- of all that it calls. The toolchain makes the tables and the parts, in modules that only this crate can name. Written by tools/links.py.
 -- Assumes nothing.
 use mathlib.Core.Bool.{true}
 use prog.Wired.{Code}
@@ -34,35 +34,72 @@ use prog.Linked.{World, Tree, Holds, in_world}
 use prog.LinkedThreads.{HasT}
 """
 
-def of_below(n, names):
-    return f"""use Rattle.{n}.proofs.TheLink as made
+def of_below(n, l, told, needed, called):
+    place = {c: 'b' + '.1' * i + '.0' for i, c in enumerate(called)}
+    def part(f, what):                  # the toolchain's name for it, which is of another form where f is long, or calls itself
+        module, cycle = l.parts[f]
+        return f'parts.{module}.{cycle}{what}'
+    def argument(f):                    # one of the crate's own functions, or one of a crate below
+        return f'({joined(f)} W h b)' if f in told else place[f]
+    asked = ''.join(f'HasT (in_world W) true Rattle.{symbol(c)}.code ×\n    (' for c in called) + 'Unit {0}' + ')' * len(called)
+    text = f"""use Rattle.{n}.proofs.TheLink as made
+use Rattle.{n}.proofs.TheLinks as parts
 
 abbrev pub table : Tree
 table = made.table
 
 abbrev pub Below : World → Type 0
-Below = made.Below
+Below W =
+    {asked}
 
 abbrev pub Linked : Code → Type 0
 Linked c = (W : World) → Holds W "{n}" table → Below W → HasT (in_world W) true c
-""" + ''.join(f"""
-pub {joined(f)} : Linked Rattle.{n}.proofs.{'.'.join(f.split('::')[1:])}.Symbol.code
-{joined(f)} = made.linked-{f}
-""" for f in names)
+"""
+    for f in told:
+        given = [f'(made.found-{m} W h)' for m in l.members[f]] + [argument(c) for c in l.calls[f]]
+        text += f"""
+{'pub ' if f in needed else ''}{joined(f)} : Linked {part(f, 'code')}
+{joined(f)} W h b =
+    {part(f, 'has')} (in_world W) true {' '.join(given)}
+"""
+    return text
 
 def joined(name):                       # image::slots::find is passed on as slots-find
     return '-'.join(name.split('::')[1:])
 
+def symbol(name):                       # and has its code in image.proofs.slots.find.Symbol
+    crate, *path = name.split('::')
+    return '.'.join([crate, 'proofs'] + path + ['Symbol'])
+
 class Link:
-    """What the toolchain makes of a crate: its functions, and those that they call in other crates, in the order of `Below`."""
+    """What the toolchain makes of a crate: its functions, in an order in which each stands behind those of the crate that it calls, and what each calls,
+    its own crate's and others', in the order in which the part of its proof takes them."""
     def __init__(self, text):
-        self.own = re.findall(r'^pub linked-(\S+) :', text, re.M)
         paths = {}
         for path, other in re.findall(r'^use Rattle\.(\S+)\.Symbol(?: as (\S+))?$', text, re.M):
             crate, _, function = path.partition('.proofs.')
             paths[other or 'Symbol'] = crate + '::' + function.replace('.', '::')
         asked = re.search(r'^Below =(.*?)\n\n', text, re.M | re.S).group(1)
-        self.calls = [paths[s] for s in re.findall(r"(\S+)\.code\b", asked)]
+        below = [paths[s] for s in re.findall(r"(\S+)\.code\b", asked)]
+        self.own, self.parts, self.calls, self.members = [], {}, {}, {}
+        for f, body in re.findall(r'^linked-(\S+) =\s(.*?)(?=\n\n|\Z)', text, re.M | re.S):
+            self.own.append(f)
+            body = re.sub(r'\((b(?:\.1)*)\)', r'\1', body)         # a long row of projections is told in two
+            self.parts[f] = re.search(r'(\S+)\.((?:cycle_)?)has\b', body).groups()
+            self.members[f] = re.findall(r'\(found-(\S+) W h\)', body)
+            self.calls[f] = [own or below[ones.count('.1')]
+                             for own, ones in re.findall(r'\(linked-(\S+) W h b\)|\bb((?:\.1)*)\.0', body)]
+
+    def reached(self, needed):          # the crate's functions that these stand on, and they
+        found = set()
+        def go(f):
+            if f not in found and f in self.calls:
+                found.add(f)
+                for c in self.calls[f]:
+                    go(c)
+        for f in needed:
+            go(f)
+        return [f for f in self.own if f in found]
 
 def link(name, folder):
     out = (folder / name).resolve()
@@ -105,16 +142,24 @@ def main(folder):
     crate_of = dict((short, name) for name, short in re.findall(r'^use Rattle\.(\w+)\.proofs as (\w+)$', text, re.M))
     for short, path in re.findall(r'code = (\w+)\.([\w.]+)\.Symbol\.code', text):
         spoken_of.add(crate_of[short] + '::' + path.replace('.', '::'))
-    needed = spoken_of | {f for l in links.values() for f in l.calls}
-    for n, l in links.items():
-        names = [f for f in l.own if f in needed]
-        assert len({joined(f) for f in names} | {'table', 'Below', 'Linked'}) == len(names) + 3
-        write(n, HEAD + of_below(n, names))
+    needed, told, called, foreign = set(spoken_of), {}, {}, []
+    for n, l in reversed(links.items()):
+        told[n] = l.reached(needed)
+        called[n] = list(dict.fromkeys(c for f in told[n] for c in l.calls[f] if c not in l.calls))
+        foreign += [f'{f} calls {c}' for f in told[n] for c in l.calls[f] if c.split('::')[0] not in links]
+        needed |= set(called[n])
+    # the tables of std cannot be named, and without them there is nothing to show
+    if foreign:
+        sys.exit('\n'.join(['functions that the public ones stand on call functions of std:'] + foreign))
     missing = needed - {f for l in links.values() for f in l.own}
     assert not missing, missing
+    links = {n: l for n, l in links.items() if told[n]}
+    for n, l in links.items():
+        assert len({joined(f) for f in told[n]} | {'table', 'Below', 'Linked', 'made', 'parts'}) == len(told[n]) + 5
+        write(n, HEAD + of_below(n, l, told[n], needed, called[n]))
     imports = ''.join(f'use Rattle.{n}.proofs.Links as {n}\n' for n in links)
-    write(top, TOP_HEAD + imports + everything(links) + ''.join(of_crate(n, l, spoken_of) for n, l in links.items()))
-    print(len(links), 'crates,', sum(len(l.own) for l in links.values()), 'functions,', len(needed), 'passed on')
+    write(top, TOP_HEAD + imports + everything(links) + ''.join(of_crate(n, called[n], spoken_of) for n in links))
+    print(len(links), 'crates,', sum(map(len, told.values())), 'functions,', len(needed), 'passed on')
 
 TOP_HEAD = """-- There is an environment in which names mean what the code of the public functions says: one that is tied of the tables of all crates, which the
 -- toolchain makes. A look-up finds a function's crate by the text before the first colon of its name, and then the function in that crate's table.
@@ -154,9 +199,9 @@ abbrev ◌&◌ : {{A B : Type 0}} → A → B → A × B
 a & b = (a, b)
 """
 
-def of_crate(n, l, spoken_of):
-    called = [(f.split('::')[0], joined(f)) for f in l.calls]
-    row = '\n' + ''.join(f'    {crate}.{f} all holds-{crate} below-{crate} &\n' for crate, f in called) + '    tt'
+def of_crate(n, called, spoken_of):
+    rows = [(f.split('::')[0], joined(f)) for f in called]
+    row = '\n' + ''.join(f'    {crate}.{f} all holds-{crate} below-{crate} &\n' for crate, f in rows) + '    tt'
     text = f"""
 -- ---- {n}
 holds-{n} : Holds all "{n}" {n}.table

@@ -10,8 +10,8 @@ use Rattle.geometry.specs.declared.Geometry.{Geometry}
 use Rattle.geometry.specs.Geometry.{d, sector_words, Limits}
 use Rattle.geometry.specs.Places.{place, least_word, greatest_word, map_word, entry_word, content_word}
 use Rattle.geometry.proofs.Laws.{place_inside, entry-in-block, length-small}
-use Rattle.image.specs.declared.Found.{Found}
-use Rattle.image.specs.declared.Found.TheVariants.{At, Nothing}
+use Rattle.image.specs.Found.{Found}
+use Rattle.image.specs.Found.{At, Nothing}
 use Rattle.image.specs.Slots.{valid_bit, current_bit}
 use Rattle.flash.specs.declared.NextStep.{NextStep}
 use Rattle.flash.specs.declared.NextStep.TheVariants.{Next, Done}

@@ -1,17 +1,17 @@
-ghost use Rattle.std.specs.Prelude.{◌≡◌, ◌<◌, length};
-ghost use Rattle.geometry.specs.Geometry.{d, sector_words, Limits};
+ghost use Rattle.std.specs.Prelude.{◌≡◌, length};
+ghost use Rattle.geometry.specs.Geometry.{sector_words, Limits};
 ghost use Rattle.flash.specs.Steps.{step_at};
-ghost use Rattle.flash.specs.Placing.{InImage};
 ghost use Rattle.flash.specs.Ahead.{closes_with, behind_contents, from_contents, placement_steps};
+ghost use Rattle.ahead.specs.Ahead.{Placeable};
 
 use flash::{NextStep, Placement, Step};
 use geometry::Geometry;
-use image::Found;
+use image::{Entry, Location};
 
 // (g): words 1 and 2, if the block is full then.
 fn closing_step(geo: Geometry, p: Placement, s: u32) -> NextStep
     requires limits { Limits geo }
-    requires block_lt_blocks { p.block < geo.blocks }
+    requires placeable { Placeable geo p }
     ensures { result ≡ step_at (closes_with geo p) s }
 {
     let start = geo.start(p.block);
@@ -31,24 +31,19 @@ fn closing_step(geo: Geometry, p: Placement, s: u32) -> NextStep
 // Behind the contents: (d), (e), then the old entry once more, if there is one (f), and (g).
 fn step_behind(geo: Geometry, p: Placement, s: u32) -> NextStep
     requires limits { Limits geo }
-    requires number_lt_logical { p.number < geo.logical }
-    requires block_lt_blocks { p.block < geo.blocks }
-    requires slot_bound { p.slot < d geo }
-    requires in_image { InImage geo p.old }
+    requires placeable { Placeable geo p }
     ensures { result ≡ step_at (behind_contents geo p) s }
 {
     let entry = geo.entries_start(p.block) + p.slot;
     if s == 0 {
-        let begun = 0xE000_0000 + p.number;
-        return NextStep::Next(Step::Program(entry, begun));
+        return NextStep::Next(Step::Program(entry, Entry::begun(p.number).0));
     }
     if s == 1 {
-        let complete = 0xC000_0000 + p.number;
-        return NextStep::Next(Step::Program(entry, complete));
+        return NextStep::Next(Step::Program(entry, Entry::complete(p.number).0));
     }
     let old = p.old;
     match old {
-        Found::At(b, i) => {
+        Some((b, i)) => {
             if s == 2 {
                 let at = geo.entries_start(b) + i;
                 let invalid = bits::clear_bit(bits::clear_bit(p.entry, 30), 31);
@@ -56,17 +51,14 @@ fn step_behind(geo: Geometry, p: Placement, s: u32) -> NextStep
             }
             closing_step(geo, p, s - 3)
         }
-        Found::Nothing => closing_step(geo, p, s - 2),
+        None => closing_step(geo, p, s - 2),
     }
 }
 
 // From the contents on: (c), and what comes behind them.
 fn step_from_contents(geo: Geometry, p: Placement, words: &[u32], s: u32) -> NextStep
     requires limits { Limits geo }
-    requires number_lt_logical { p.number < geo.logical }
-    requires block_lt_blocks { p.block < geo.blocks }
-    requires slot_bound { p.slot < d geo }
-    requires in_image { InImage geo p.old }
+    requires placeable { Placeable geo p }
     requires words_len { length words.now ≡ sector_words }
     ensures { result ≡ step_at (from_contents geo p words.now) s }
 {
@@ -82,10 +74,7 @@ fn step_from_contents(geo: Geometry, p: Placement, words: &[u32], s: u32) -> Nex
 // Step s of a placing that is known beforehand, with these contents; none where it has no more.
 pub fn placement_step(geo: Geometry, p: Placement, words: &[u32], s: u32) -> NextStep
     requires limits { Limits geo }
-    requires number_lt_logical { p.number < geo.logical }
-    requires block_lt_blocks { p.block < geo.blocks }
-    requires slot_bound { p.slot < d geo }
-    requires in_image { InImage geo p.old }
+    requires placeable { Placeable geo p }
     requires words_len { length words.now ≡ sector_words }
     ensures { result ≡ step_at (placement_steps geo p words.now) s }
 {
@@ -95,13 +84,13 @@ pub fn placement_step(geo: Geometry, p: Placement, words: &[u32], s: u32) -> Nex
     }
     let old = p.old;
     match old {
-        Found::At(b, i) => {
+        Some((b, i)) => {
             if s == 1 {
                 let at = geo.entries_start(b) + i;
                 return NextStep::Next(Step::Program(at, bits::clear_bit(p.entry, 30)));
             }
             step_from_contents(geo, p, words, s - 2)
         }
-        Found::Nothing => step_from_contents(geo, p, words, s - 1),
+        None => step_from_contents(geo, p, words, s - 1),
     }
 }

@@ -1,7 +1,7 @@
-ghost use Rattle.std.specs.Prelude.{true, ◌≡◌, ◌<◌, length};
-ghost use Rattle.geometry.specs.Geometry.{d, sector_words};
-ghost use Rattle.image.specs.Words.{Shaped};
+ghost use Rattle.std.specs.Prelude.{true, ◌≡◌, ◌<◌};
+ghost use Rattle.geometry.specs.Geometry.{d};
 ghost use Rattle.image.specs.Slots.{find};
+ghost use Rattle.image.specs.Views.{of_image, of_block};
 ghost use Rattle.image.specs.WellFormed.{R2, well_formed, NoneSuperseded};
 ghost use Rattle.flash.specs.Steps.{step_at};
 ghost use Rattle.flash.specs.Placing.{InImage, invalidates};
@@ -10,73 +10,64 @@ ghost use Rattle.flash.specs.Ahead.{placement_over};
 
 use super::placements::placement_step;
 use blocks::free_slots;
-use flash::{NextStep, Placement, Step};
-use geometry::Geometry;
-use image::Found;
-use image::slots::find;
+use flash::{NextStep, Placement, Sector, Step};
+use image::Location;
+use image::view::{Block, View};
 use placing::{bounds_with, entry_at};
 use writing::filling::next_slot;
 
-// The placing of n in slot i of block b, which is free: the block is full then if this is its last free slot.
-fn placement_over(image: &[u32], geo: Geometry, n: u32, b: usize, i: usize) -> Placement
-    requires shaped { Shaped geo image.now }
-    requires none_superseded { NoneSuperseded geo image.now }
-    requires n_lt_logical { n < geo.logical }
-    requires b_lt_blocks { b < geo.blocks }
-    requires i_bound { i < d geo }
-    requires b_value { R2 geo image.now b ≡ true }
-    ensures { result ≡ placement_over geo image.now n (find geo image.now n) b i }
+// The placing of n in slot i of a block, which is free: the block is full then if this is its last free slot.
+fn placement_over(block: &Block, n: u32, i: usize) -> Placement
+    requires none_superseded { of_image NoneSuperseded block.now.image }
+    requires n_lt_logical { n < block.now.image.geo.logical }
+    requires i_bound { i < d block.now.image.geo }
+    requires b_value { of_block R2 block.now ≡ true }
+    ensures { result ≡ of_image placement_over block.now.image n (of_image find block.now.image n) block.now.index i }
 {
-    let at = geo.map_start(b) + i / 32;
-    let word = image[at];
+    let word = block.map_words()[i / 32];
     let map = bits::clear_bit(word, (i % 32) as u32);
-    let old = find(image, geo, n);
-    let entry = entry_at(image, geo, old);
-    let closes = free_slots(image, geo, b) == 1;
+    let old = block.image.find(n);
     Placement {
         number: n,
-        block: b,
+        block: block.index,
         slot: i,
         map,
         old,
-        entry,
-        closes,
-        bounds: bounds_with(image, geo, b, n),
+        entry: entry_at(&block.image, old),
+        closes: free_slots(block) == 1,
+        bounds: bounds_with(block, n),
     }
 }
 
-// Step i of a write of n by rule 1 or 2: of its placing in the slot that they take.
-pub fn fill_step(image: &[u32], geo: Geometry, n: u32, buffer: &[u32], i: u32) -> NextStep
-    requires shaped { Shaped geo image.now }
-    requires image_value { well_formed geo image.now ≡ true }
-    requires n_lt_logical { n < geo.logical }
-    requires buffer_len { length buffer.now ≡ sector_words }
-    ensures { result ≡ step_at (filling geo image.now n buffer.now) i }
+// Step i of a write of a sector by rule 1 or 2: of its placing in the slot that they take.
+pub fn fill_step(image: &View, sector: &Sector, i: u32) -> NextStep
+    requires image_value { of_image well_formed image.now ≡ true }
+    requires number_lt_logical { sector.now.number < image.now.geo.logical }
+    ensures { result ≡ step_at (of_image filling image.now sector.now.number sector.now.words.now) i }
 {
-    match next_slot(image, geo) {
-        Found::At(b, slot) => {
-            let p = placement_over(image, geo, n, b, slot);
-            placement_step(geo, p, buffer, i)
+    match next_slot(image) {
+        Some((b, slot)) => {
+            let p = placement_over(&image.block(b), sector.number, slot);
+            placement_step(image.geo, p, sector.words, i)
         }
-        Found::Nothing => NextStep::Done,
+        None => NextStep::Done,
     }
 }
 
 // Step i of the release of what was found: there is one, its live entry with bit 31 cleared.
-pub fn release_step(image: &[u32], geo: Geometry, live: Found, i: u32) -> NextStep
-    requires shaped { Shaped geo image.now }
-    requires in_image { InImage geo live }
-    ensures { result ≡ step_at (invalidates geo image.now live) i }
+pub fn release_step(image: &View, live: Option<Location>, i: u32) -> NextStep
+    requires { InImage image.now.geo live }
+    ensures { result ≡ step_at (of_image invalidates image.now live) i }
 {
     match live {
-        Found::At(b, slot) => {
+        Some((b, slot)) => {
             if i == 0 {
-                let at = geo.entries_start(b) + slot;
-                let invalid = bits::clear_bit(entry_at(image, geo, live), 31);
+                let at = image.geo.entries_start(b) + slot;
+                let invalid = bits::clear_bit(entry_at(image, live), 31);
                 return NextStep::Next(Step::Program(at, invalid));
             }
             NextStep::Done
         }
-        Found::Nothing => NextStep::Done,
+        None => NextStep::Done,
     }
 }

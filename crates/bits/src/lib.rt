@@ -1,6 +1,6 @@
 #![tactic(auto)]
 
-ghost use Rattle.std.specs.Prelude.{◌≡◌};
+ghost use Rattle.std.specs.Prelude.{◌≡◌, min, max};
 ghost use Rattle.bits.specs.Word.{is_set, cleared, programmed, lowest_set, set_bits};
 
 // Whether bit j of w is set. A word has no bit from 32 on.
@@ -42,4 +42,19 @@ pub fn count_set(w: u32) -> u32
     ensures { result ≡ set_bits w }
 {
     u32::count_ones(w)
+}
+
+// The lesser of two words. (This and the next one are not the methods of std: no function of std is called in what the public calls stand on, since
+// `determined` proves of each of them, `runs`, that an environment has its code, and the tables of std cannot be named.)
+pub fn lesser(a: u32, b: u32) -> u32
+    ensures { result ≡ min a b }
+{
+    if a < b { a } else { b }
+}
+
+// The greater of two words.
+pub fn greater(a: u32, b: u32) -> u32
+    ensures { result ≡ max a b }
+{
+    if a < b { b } else { a }
 }

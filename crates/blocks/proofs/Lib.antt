@@ -1,3 +1,2 @@
 pub mod FreeMap
-pub mod Choosing
 pub mod Links

@@ -8,8 +8,8 @@ use lib.ListN.{length, get_or}
 use borrow.Author.Tests.{not-false, eqb-true, eq-eqb, leb-false}
 use Rattle.geometry.specs.declared.Geometry.{Geometry}
 use Rattle.geometry.specs.Geometry.{sector_words}
-use Rattle.image.specs.declared.Found.{Found}
-use Rattle.image.specs.declared.Found.TheVariants.{At, Nothing}
+use Rattle.image.specs.Found.{Found}
+use Rattle.image.specs.Found.{At, Nothing}
 use Rattle.image.specs.Words.{Image, Shaped, Words32, erase_count}
 use Rattle.image.specs.Slots.{live_in, find, is_mapped}
 use Rattle.image.specs.Blocks.{victim}
@@ -25,7 +25,7 @@ use Rattle.flash.proofs.Filling.{Ready}
 use Rattle.flash.proofs.Written.{Wrote, Sector, writing-wrote, writing-right}
 use Rattle.flash.proofs.Released.{Released, releasing-released, releasing-right}
 use Rattle.flash.proofs.Tables.{writing-others, writing-sets}
-use Rattle.answers.specs.declared.Answer.TheVariants.{Accepted}
+use Rattle.answers.specs.Answers.{Accepted}
 use Rattle.answers.proofs.Acceptance.{if-accepted}
 use Rattle.calls.specs.Refusals.{
   format_rows,
@@ -63,13 +63,13 @@ module _ (geo : Geometry) (image : Image) where
   pub check-accepted : check_answer geo image ≡ Accepted → Shaped geo image × (well_formed geo image ≡ true)
   unfolding check_answer
   check-accepted e =
-      let rows : NoneApplies (check_rows geo image) = none-applies (check_rows geo image) e refl in
+      let rows : NoneApplies (check_rows geo image) = none-applies (check_rows geo image) e in
       (shaped-left geo image rows.0, formed-by rows.1.0)
 
   pub format-accepted : format_answer geo image ≡ Accepted → Shaped geo image
   unfolding format_answer
   format-accepted e =
-      let rows : NoneApplies (format_rows geo image) = none-applies (format_rows geo image) e refl in
+      let rows : NoneApplies (format_rows geo image) = none-applies (format_rows geo image) e in
       shaped-left geo image rows.0
 
   -- ---- an accepted read
@@ -77,7 +77,7 @@ module _ (geo : Geometry) (image : Image) where
   pub read-accepted : (n : ℕ) (buffer : List ℕ) → read_answer geo image n buffer ≡ Accepted → (b i : ℕ) × (find geo image n ≡ At b i)
   unfolding read_answer
   read-accepted n buffer e =
-      let rows : NoneApplies (read_rows geo image n buffer) = none-applies (read_rows geo image n buffer) e refl in
+      let rows : NoneApplies (read_rows geo image n buffer) = none-applies (read_rows geo image n buffer) e in
       found-by n rows.1.1.1.1.0
 
   -- ---- an accepted write
@@ -90,26 +90,29 @@ module _ (geo : Geometry) (image : Image) where
   pub write-accepted : (n : ℕ) (buffer : List ℕ) → write_answer geo image n buffer ≡ Accepted → Shaped geo image × (well_formed geo image ≡ true)
   unfolding write_answer
   write-accepted n buffer e =
-      let rows : NoneApplies (write_rows geo image n buffer) = none-applies (write_rows geo image n buffer) e refl in
+      let rows : NoneApplies (write_rows geo image n buffer) = none-applies (write_rows geo image n buffer) e in
       (shaped-left geo image rows.0, formed-by rows.1.1.1.0)
 
   pub write-sized : (n : ℕ) (buffer : List ℕ) → write_answer geo image n buffer ≡ Accepted → (n < geo.logical) × (length buffer ≡ sector_words)
   unfolding write_answer
   write-sized n buffer e =
-      let rows : NoneApplies (write_rows geo image n buffer) = none-applies (write_rows geo image n buffer) e refl in
+      let rows : NoneApplies (write_rows geo image n buffer) = none-applies (write_rows geo image n buffer) e in
       (leb-false geo.logical n rows.1.1.0, eqb-true (length buffer) sector_words (not-false _ rows.1.0))
 
-  module _ (n : ℕ) (buffer : List ℕ) (words : Words32 image) (accepted : write_answer geo image n buffer ≡ Accepted) where
+  module _ (n : ℕ) (buffer : List ℕ) (accepted : write_answer geo image n buffer ≡ Accepted) where
     write-rows : NoneApplies (write_rows geo image n buffer)
     unfolding write_answer
-    write-rows = none-applies (write_rows geo image n buffer) accepted refl
-
-    pub write-start : Ready geo image × (R6 geo image ≡ true)
-    write-start = formed-ready geo image (shaped-left geo image write-rows.0) words (formed-by write-rows.1.1.1.0)
+    write-rows = none-applies (write_rows geo image n buffer) accepted
 
     pub below-ceiling : must_reclaim geo image ≡ true → erase_count geo image (victim geo image) ≡ ceiling → ⊥
     below-ceiling must worn =
         true≢false (sym (rw (must, eq-eqb (erase_count geo image (victim geo image)) ceiling worn)) ∙ write-rows.1.1.1.1.0)
+
+  module _ (n : ℕ) (buffer : List ℕ) (words : Words32 image) (accepted : write_answer geo image n buffer ≡ Accepted) where
+    pub write-start : Ready geo image × (R6 geo image ≡ true)
+    write-start =
+        let rows = write-rows n buffer accepted in
+        formed-ready geo image (shaped-left geo image rows.0) words (formed-by rows.1.1.1.0)
 
     -- the words that it leaves of any table
     pub write-others :
@@ -117,7 +120,7 @@ module _ (geo : Geometry) (image : Image) where
         m ≢ n →
         (must_reclaim geo image ≡ true → live_in geo image (victim geo image) m ≡ false) →
         get_or (table_written geo image n table) m 0 ≡ get_or table m 0
-    write-others m table other still = writing-others geo image n m table other still write-start.0 below-ceiling
+    write-others m table other still = writing-others geo image n m table other still write-start.0 (below-ceiling n buffer accepted)
 
   module _ (n : ℕ) (buffer : List ℕ) (words : Words32 image) (handed : Words32 buffer) (accepted : write_answer geo image n buffer ≡ Accepted) where
     abbrev start : Ready geo image × (R6 geo image ≡ true)
@@ -133,11 +136,11 @@ module _ (geo : Geometry) (image : Image) where
     write-steps = if-accepted (writing geo image n buffer) [] accepted
 
     pub write-wrote : Wrote geo image n buffer (victim geo image) (writing geo image n buffer)
-    write-wrote = writing-wrote geo image n buffer start.0 start.1 write-sector (below-ceiling n buffer words accepted)
+    write-wrote = writing-wrote geo image n buffer start.0 start.1 write-sector (below-ceiling n buffer accepted)
 
     -- and a right table stays right
     pub write-right : table_written geo image n (right_table geo image) ≡ right_table geo (run geo image (writing geo image n buffer))
-    write-right = writing-right geo image n buffer start.0 start.1 write-sector (below-ceiling n buffer words accepted)
+    write-right = writing-right geo image n buffer start.0 start.1 write-sector (below-ceiling n buffer accepted)
 
     -- and of any table the words that it sets are right
     pub write-sets :
@@ -147,20 +150,20 @@ module _ (geo : Geometry) (image : Image) where
         ((m ≡ n) ⊎ ((must_reclaim geo image ≡ true) × (live_in geo image (victim geo image) m ≡ true))) →
         get_or (table_written geo image n table) m 0 ≡ place_word geo (find geo (run geo image (writing geo image n buffer)) m)
     write-sets m table long l sets =
-        writing-sets geo image n m buffer table start.0 start.1 write-sector (below-ceiling n buffer words accepted) long l sets
+        writing-sets geo image n m buffer table start.0 start.1 write-sector (below-ceiling n buffer accepted) long l sets
 
   -- ---- an accepted release
 
   pub release-accepted : (n : ℕ) → release_answer geo image n ≡ Accepted → Shaped geo image × (well_formed geo image ≡ true)
   unfolding release_answer
   release-accepted n e =
-      let rows : NoneApplies (release_rows geo image n) = none-applies (release_rows geo image n) e refl in
+      let rows : NoneApplies (release_rows geo image n) = none-applies (release_rows geo image n) e in
       (shaped-left geo image rows.0, formed-by rows.1.1.0)
 
   module _ (n : ℕ) (words : Words32 image) (accepted : release_answer geo image n ≡ Accepted) where
     release-rows : NoneApplies (release_rows geo image n)
     unfolding release_answer
-    release-rows = none-applies (release_rows geo image n) accepted refl
+    release-rows = none-applies (release_rows geo image n) accepted
 
     pub release-steps : release_steps geo image n ≡ releasing geo image n
     unfolding release_steps
@@ -189,7 +192,7 @@ module _ (geo : Geometry) (image : Image) where
       Shaped geo image × (mendable geo image ≡ true) × (lacks_room geo image ≡ false) × (victim_worn geo image ≡ false)
   unfolding repair_answer
   repair-accepted e =
-      let rows : NoneApplies (repair_rows geo image) = none-applies (repair_rows geo image) e refl in
+      let rows : NoneApplies (repair_rows geo image) = none-applies (repair_rows geo image) e in
       (shaped-left geo image rows.0, not-false (mendable geo image) rows.1.0, rows.1.1.0, rows.1.1.1.0)
 
   pub repair-accepts :

@@ -1,42 +1,57 @@
 -- The rows of the refusals: what the code's tests say of them, and what they leave where they do not apply. Assumes nothing.
-use mathlib.Core.Path.{◌≡◌, sym, ap, ◌∙◌}
+use mathlib.Core.Path.{◌≡◌, refl, sym, ap, ◌∙◌}
 use mathlib.Core.Bool.{Bool, true, false, not}
-use mathlib.Core.List.{List, ◌∷◌}
-use mathlib.Core.Logic.{◌≢◌}
+use mathlib.Core.List.{List, [], ◌∷◌}
 use Prim.Native.Nat.{ℕ, ◌<◌}
+use native.Mathlib.Omega.{arith}
 use lib.Dec.{eqb}
 use lib.ListN.{length}
-use borrow.Author.Tests.{eq-eqb, eqb-true, lt-leb, not-true, not-false}
-use Rattle.ranges.proofs.Tests.{both-pass, unless}
+use borrow.Author.Tests.{eq-eqb, eqb-true, lt-leb, not-false}
+use Rattle.ranges.proofs.Tests.{both-pass}
 use Rattle.geometry.specs.declared.Geometry.{Geometry}
-use Rattle.geometry.specs.Geometry.{image_length, sector_words, within_limits}
+use Rattle.geometry.specs.Geometry.{image_length, within_limits}
 use Rattle.geometry.proofs.Laws.{limits-hold, limits-pass}
+use Rattle.std.specs.Prelude.{Result, Ok, Err, Some, cond}
 use Rattle.image.specs.declared.Fault.{Fault}
+use Rattle.image.specs.Found.{Found, Nothing}
 use Rattle.image.specs.Words.{Image, Shaped, Words32}
 use Rattle.image.specs.WellFormed.{R6, well_formed}
 use Rattle.image.specs.Faults.{first_fault}
 use Rattle.image.proofs.Facts.{sound-facts, formed-sound, formed-blank}
-use Rattle.image.proofs.Faults.{fault-exactly-when-malformed}
 use Rattle.flash.proofs.Filling.{Ready}
-use Rattle.answers.specs.declared.Answer.TheVariants.{Malformed}
-use Rattle.calls.specs.Refusals.{Row, first_that_applies, one_sector, row1, row2, row3, row4}
+use Rattle.answers.specs.declared.Refusal.TheVariants.{Malformed}
+use Rattle.answers.specs.declared.Refusal.{Refusal}
+use Rattle.answers.specs.Answers.{Answer, Accepted}
+use Rattle.checking.specs.FirstFault.{fault_if_any}
+use Rattle.calls.specs.Refusals.{first_that_applies, malformed, row1, row4, row5, row6, sector_rows, read_answer, write_answer, release_answer}
+use Rattle.calls.proofs.Rows.{NoneApplies, none-applies, first-refuse, first-pass}
 
 -- row 1 is a test turned round: what the code got by turning its test round is what the row says
 pub as-tested : {r t u : Bool} → r ≡ t → not r ≡ u → not t ≡ u
 as-tested e h = sym (ap not e) ∙ h
 
--- row 4 applies exactly where the check found a pair, which is then the one that the row names
-module _ (geo : Geometry) (image : Image) {fault : Fault} (e : fault ≡ first_fault geo image) where
-  pub fault-applies : fault.rule ≢ 0 → (row4 geo image).applies ≡ true
-  fault-applies n = ap not ((fault-exactly-when-malformed geo image).0.0 (λ z. n (ap (λ f. f.rule) e ∙ z)))
+-- row 4, by what the check gives
+module _ (geo : Geometry) (image : Image) where
+  pub fault-named : {fault : Fault} → fault_if_any geo image ≡ Err fault → malformed geo image ≡ Malformed fault.block fault.rule
+  fault-named {fault} = go (well_formed geo image)
+    where
+      go : (t : Bool) → cond t (Ok (tt {0})) (Err (first_fault geo image)) ≡ Err fault → malformed geo image ≡ Malformed fault.block fault.rule
+      go true e = let z : ◌≡◌ {A = ℕ} 0 1 = cc in absurd (omega arith)
+      go false e = let same : first_fault geo image ≡ fault = cc in ap (λ f. Malformed f.block f.rule) same
 
-  pub fault-passes : fault.rule ≡ 0 → (row4 geo image).applies ≡ false
-  fault-passes z =
-      unless (row4 geo image).applies
-      (λ t. (fault-exactly-when-malformed geo image).0.1 (not-true _ t) (sym (ap (λ f. f.rule) e) ∙ z))
+  pub fault-refuses : {fault : Fault} → fault_if_any geo image ≡ Err fault → first_that_applies (row4 geo image ∷ []) ≡ Err (Malformed fault.block fault.rule)
+  fault-refuses {fault} e = go (well_formed geo image) e
+    where
+      go : (t : Bool) → cond t (Ok (tt {0})) (Err (first_fault geo image)) ≡ Err fault → cond (not t) (Err (malformed geo image)) Accepted ≡ Err (Malformed fault.block fault.rule)
+      go true q = let z : ◌≡◌ {A = ℕ} 0 1 = cc in absurd (omega arith)
+      go false q = ap Err (fault-named e)
 
-  pub fault-named : Malformed fault.block fault.rule ≡ (row4 geo image).refusal
-  fault-named = ap (λ f. Malformed f.block f.rule) e
+  pub fault-passes : {u : Unit {0}} → fault_if_any geo image ≡ Ok u → first_that_applies (row4 geo image ∷ []) ≡ Accepted
+  fault-passes {u} = go (well_formed geo image)
+    where
+      go : (t : Bool) → cond t (Ok (tt {0})) (Err (first_fault geo image)) ≡ Ok u → cond (not t) (Err (malformed geo image)) Accepted ≡ Accepted
+      go true e = refl
+      go false e = let z : ◌≡◌ {A = ℕ} 0 1 = cc in absurd (omega arith)
 
 -- where row 1 does not apply, the image has its geometry's length, within the limits
 pub shaped-left : (geo : Geometry) (image : Image) → (row1 geo image).applies ≡ false → Shaped geo image
@@ -53,12 +68,54 @@ pub formed-ready : (geo : Geometry) (image : Image) → Shaped geo image → Wor
 formed-ready geo image shaped words t =
     (record { shaped = shaped; words = words; sound = sound-facts geo image (formed-sound geo image t) }, formed-blank geo image t)
 
--- where rows 1 to 4 do not apply, the rows after them decide
-pub past-four :
-    (geo : Geometry) (image : Image) (n : ℕ) (buffer : List ℕ) (rest : List Row) →
-    (row1 geo image).applies ≡ false →
-    length buffer ≡ sector_words →
-    n < geo.logical →
-    (row4 geo image).applies ≡ false →
-    first_that_applies (row1 geo image ∷ row2 geo image (one_sector buffer) ∷ row3 geo image n ∷ row4 geo image ∷ rest) ≡ first_that_applies rest
-past-four geo image n buffer rest fit long below well = rw (fit, eq-eqb _ _ long, lt-leb _ _ below, well)
+-- rows 1 to 4 of a read and a write: where one of them refuses, so does the call; and past them the rows after them decide
+module _ (geo : Geometry) (image : Image) (n : ℕ) (buffer : List ℕ) where
+  abbrev first_four : Answer
+  first_four = first_that_applies (sector_rows geo image n buffer)
+
+  pub read-refused : {why : Refusal} → first_four ≡ Err why → read_answer geo image n buffer ≡ Err why
+  unfolding read_answer
+  read-refused e = first-refuse (row5 geo image n ∷ []) (sector_rows geo image n buffer) e
+
+  pub write-refused : {why : Refusal} → first_four ≡ Err why → write_answer geo image n buffer ≡ Err why
+  unfolding write_answer
+  write-refused e = first-refuse (row6 geo image ∷ []) (sector_rows geo image n buffer) e
+
+  pub read-passed : first_four ≡ Accepted → read_answer geo image n buffer ≡ first_that_applies (row5 geo image n ∷ [])
+  unfolding read_answer
+  read-passed e = first-pass (row5 geo image n ∷ []) (sector_rows geo image n buffer) e
+
+  pub write-passed : first_four ≡ Accepted → write_answer geo image n buffer ≡ first_that_applies (row6 geo image ∷ [])
+  unfolding write_answer
+  write-passed e = first-pass (row6 geo image ∷ []) (sector_rows geo image n buffer) e
+
+  pub sector-formed : first_four ≡ Accepted → Shaped geo image × (well_formed geo image ≡ true)
+  sector-formed e =
+      let rows : NoneApplies (sector_rows geo image n buffer) = none-applies (sector_rows geo image n buffer) e in
+      (shaped-left geo image rows.0, not-false (well_formed geo image) rows.1.1.1.0)
+
+-- rows 1, 3 and 4 of a release
+module _ (geo : Geometry) (image : Image) (n : ℕ) (fit : (row1 geo image).applies ≡ false) (below : n < geo.logical) where
+  pub release-refused : {why : Refusal} → first_that_applies (row4 geo image ∷ []) ≡ Err why → release_answer geo image n ≡ Err why
+  unfolding release_answer
+  release-refused e = rw (fit, lt-leb _ _ below) (first-refuse (row5 geo image n ∷ []) (row4 geo image ∷ []) e)
+
+  pub release-passed : first_that_applies (row4 geo image ∷ []) ≡ Accepted → release_answer geo image n ≡ first_that_applies (row5 geo image n ∷ [])
+  unfolding release_answer
+  release-passed e = rw (fit, lt-leb _ _ below) (first-pass (row5 geo image n ∷ []) (row4 geo image ∷ []) e)
+
+-- past row 4 alone
+pub rules-hold : (geo : Geometry) (image : Image) → first_that_applies (row4 geo image ∷ []) ≡ Accepted → well_formed geo image ≡ true
+rules-hold geo image e =
+    let rows : NoneApplies (row4 geo image ∷ []) = none-applies (row4 geo image ∷ []) e in
+    not-false (well_formed geo image) rows.0
+
+-- what gives no fault has found none
+pub no-fault : (r : Result (Unit {0}) Fault) → ((fault : Fault) → r ≡ Err fault → ⊥) → r ≡ Ok tt
+no-fault (Ok u) n = refl
+no-fault (Err fault) n = absurd (n fault refl)
+
+-- what is found at no place is not found
+pub nowhere : (f : Found) → ((at : ℕ × ℕ) → f ≡ Some at → ⊥) → f ≡ Nothing
+nowhere (Some at) n = absurd (n at refl)
+nowhere Nothing n = refl

@@ -3,4 +3,5 @@ pub mod CallLaws
 pub mod Changing
 pub mod AcceptedCalls
 pub mod Courses
+pub mod Told
 pub mod Links

@@ -1,55 +1,57 @@
--- The first row that applies, the number of what is given by it, and that none applies where a call is accepted. Assumes nothing.
-use mathlib.Core.Path.{◌≡◌, refl, ap}
+-- The number of a row's refusal, that none applies where a call is accepted, and what rows that come first say of those after them. Assumes nothing.
+use mathlib.Core.Path.{◌≡◌, refl}
 use mathlib.Core.Bool.{Bool, true, false, ◌&&◌}
-use mathlib.Core.List.{List, [], ◌∷◌}
+use mathlib.Core.List.{List, [], ◌∷◌, ◌++◌}
 use Prim.Native.Nat.{◌<◌}
-use native.Mathlib.Omega.{arith}
 use lib.Dec.{eqb, ltb}
 use borrow.Author.Tests.{eqb-true, ltb-true}
+use Rattle.std.specs.Prelude.{Err}
 use Rattle.ranges.proofs.Tests.{both-pass}
-use Rattle.answers.specs.declared.Answer.{Answer}
-use Rattle.answers.specs.declared.Answer.TheVariants.{Accepted}
-use Rattle.answers.specs.Answers.{number_of}
+use Rattle.answers.specs.declared.Refusal.{Refusal}
+use Rattle.answers.specs.Answers.{Accepted, number_of}
+use Rattle.answers.proofs.Acceptance.{not-accepted}
 use Rattle.calls.specs.Refusals.{Row, first_that_applies}
 
 -- each row's refusal has the row's number, which is not 0
 abbrev pub numbered : List Row → Bool
 numbered [] = true
-numbered (r ∷ rs) = eqb (number_of r.refusal) r.number && (ltb 0 r.number && numbered rs)
+numbered (r ∷ rs) = eqb (number_of (Err r.refusal)) r.number && (ltb 0 r.number && numbered rs)
 
-pub numbered-parts : (r : Row) (rs : List Row) → numbered (r ∷ rs) ≡ true → (number_of r.refusal ≡ r.number) × (0 < r.number) × (numbered rs ≡ true)
+pub numbered-parts : (r : Row) (rs : List Row) → numbered (r ∷ rs) ≡ true → (number_of (Err r.refusal) ≡ r.number) × (0 < r.number) × (numbered rs ≡ true)
 numbered-parts r rs t =
-    let first = both-pass (eqb (number_of r.refusal) r.number) (ltb 0 r.number && numbered rs) t in
+    let first = both-pass (eqb (number_of (Err r.refusal)) r.number) (ltb 0 r.number && numbered rs) t in
     let second = both-pass (ltb 0 r.number) (numbered rs) first.1 in
-    (eqb-true (number_of r.refusal) r.number first.0, ltb-true 0 r.number second.0, second.1)
-
--- the first row that applies: this one, or one after it
-pub data FirstIs : List Row → Answer → Type 0 where
-  here : {r : Row} {rs : List Row} → r.applies ≡ true → FirstIs (r ∷ rs) r.refusal
-  later : {r : Row} {rs : List Row} {a : Answer} → r.applies ≡ false → FirstIs rs a → FirstIs (r ∷ rs) a
-
-pub first-is : {rows : List Row} {a : Answer} → FirstIs rows a → first_that_applies rows ≡ a
-first-is (here t) = rw t
-first-is (later t f) = rw t (first-is f)
-
--- its number is not 0
-pub first-number : {rows : List Row} {a : Answer} → FirstIs rows a → numbered rows ≡ true → 0 < number_of a
-first-number (here {r} {rs} h) t = let parts = numbered-parts r rs t in omega (arith, parts.0, parts.1)
-first-number (later {r} {rs} h f) t = first-number f (numbered-parts r rs t).2
+    (eqb-true (number_of (Err r.refusal)) r.number first.0, ltb-true 0 r.number second.0, second.1)
 
 -- where a call is accepted, no row applies
 abbrev pub NoneApplies : List Row → Type 0
 NoneApplies [] = Unit {0}
 NoneApplies (r ∷ rs) = (r.applies ≡ false) × NoneApplies rs
 
-pub none-applies : (rows : List Row) → first_that_applies rows ≡ Accepted → numbered rows ≡ true → NoneApplies rows
-none-applies [] e t = tt
-none-applies (r ∷ rs) e t = go r.applies refl (λ q. none-applies rs q (numbered-parts r rs t).2)
+pub none-applies : (rows : List Row) → first_that_applies rows ≡ Accepted → NoneApplies rows
+none-applies [] e = tt
+none-applies (r ∷ rs) e = go r.applies refl (none-applies rs)
   where
     go : (b : Bool) → r.applies ≡ b → (first_that_applies rs ≡ Accepted → NoneApplies rs) → NoneApplies (r ∷ rs)
-    go true p ih =
-        absurd
-        (let given : r.refusal ≡ Accepted = rw p at e in
-        let parts = numbered-parts r rs t in
-        omega (arith, ap number_of given, parts.0, parts.1))
+    go true p ih = absurd (not-accepted refl (rw p at e))
     go false p ih = (p, ih (rw p at e))
+
+-- where one of the first rows refuses, so do all together; and where none does, those after them decide
+module _ (rest : List Row) where
+  pub first-refuse : (rows : List Row) {why : Refusal} → first_that_applies rows ≡ Err why → first_that_applies (rows ++ rest) ≡ Err why
+  first-refuse [] e = absurd (not-accepted e refl)
+  first-refuse (r ∷ rs) {why} e = go r.applies refl (first-refuse rs)
+    where
+      go :
+          (b : Bool) →
+          r.applies ≡ b →
+          (first_that_applies rs ≡ Err why → first_that_applies (rs ++ rest) ≡ Err why) →
+          first_that_applies (r ∷ rs ++ rest) ≡ Err why
+      go true p ih = rw p (rw p at e)
+      go false p ih = rw p (ih (rw p at e))
+
+  pub first-pass : (rows : List Row) → first_that_applies rows ≡ Accepted → first_that_applies (rows ++ rest) ≡ first_that_applies rest
+  first-pass [] e = refl
+  first-pass (r ∷ rs) e =
+      let none = none-applies (r ∷ rs) e in
+      rw none.0 (first-pass rs (rw none.0 at e))

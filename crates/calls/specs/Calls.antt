@@ -5,8 +5,8 @@ use Rattle.bits.specs.Word.{ones}
 use Rattle.geometry.specs.declared.Geometry.{Geometry}
 use Rattle.geometry.specs.Geometry.{image_length}
 use Rattle.geometry.specs.Places.{place, erase_word}
-use Rattle.image.specs.declared.Found.{Found}
-use Rattle.image.specs.declared.Found.TheVariants.{At, Nothing}
+use Rattle.image.specs.Found.{Found}
+use Rattle.image.specs.Found.{At, Nothing}
 use Rattle.image.specs.Words.{Image, erase_count, contents}
 use Rattle.image.specs.Slots.{find}
 use Rattle.image.specs.Blocks.{free_slots, live_slots, dead_slots}
@@ -17,11 +17,9 @@ use Rattle.flash.specs.Placing.{releasing}
 use Rattle.flash.specs.Writing.{writing}
 use Rattle.flash.specs.Repairing.{repairing}
 use Rattle.flash.specs.Tables.{table_written, table_released}
-use Rattle.answers.specs.declared.Answer.{Answer}
-use Rattle.answers.specs.declared.Answer.TheVariants.{Accepted}
-use Rattle.answers.specs.Answers.{if_accepted}
-use Rattle.calls.specs.declared.Outcome.{Outcome}
-use Rattle.calls.specs.declared.Totals.{Totals}
+use Rattle.answers.specs.Answers.{Answer, Accepted, if_accepted}
+use Rattle.calls.specs.declared.Counts.{Counts}
+use Rattle.calls.specs.Outcomes.{Outcome, Totals}
 use Rattle.calls.specs.Refusals.{format_answer, check_answer, read_answer, write_answer, release_answer, repair_answer}
 
 module _ (geo : Geometry) where
@@ -91,9 +89,9 @@ module _ (geo : Geometry) (image : Image) where
 abbrev pub outcome : Answer → List Step → Outcome
 outcome answer steps = record { answer = answer; words = words_in steps; erasures = erasures_in steps }
 
--- what an accepted one reports, by its counts
-abbrev pub accepting : ℕ → ℕ → Outcome
-accepting words erasures = record { answer = Accepted; words = words; erasures = erasures }
+-- what is counted of steps that are carried out
+abbrev pub counted : List Step → Counts
+counted steps = record { words = words_in steps; erasures = erasures_in steps }
 
 module _ (geo : Geometry) (image : Image) where
   -- a write: what it reports, and the image that it leaves

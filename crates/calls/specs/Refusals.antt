@@ -1,5 +1,5 @@
 -- FORMAT.md, Refusals: the table of refusals, a definition for each row, and each call's rows in the table's order.
-use Rattle.std.specs.Prelude.{Bool, not, cond, ◌&&◌, List, [], ◌∷◌, ℕ, leb, eqb, length}
+use Rattle.std.specs.Prelude.{Bool, not, cond, ◌&&◌, List, [], ◌∷◌, ℕ, leb, eqb, length, Err}
 use Rattle.geometry.specs.declared.Geometry.{Geometry}
 use Rattle.geometry.specs.Geometry.{image_length, sector_words, within_limits}
 use Rattle.image.specs.Words.{Image, erase_count}
@@ -10,19 +10,20 @@ use Rattle.image.specs.Faults.{first_fault}
 use Rattle.image.specs.Mending.{mendable}
 use Rattle.flash.specs.Writing.{must_reclaim}
 use Rattle.flash.specs.Repairing.{lacks_room, victim_worn}
-use Rattle.answers.specs.declared.Answer.{Answer}
-use Rattle.answers.specs.declared.Answer.TheVariants.{Accepted, BadGeometry, BadBuffer, BadNumber, Malformed, Unmapped, WornOut, NoRoom}
+use Rattle.answers.specs.declared.Refusal.{Refusal}
+use Rattle.answers.specs.declared.Refusal.TheVariants.{BadGeometry, BadBuffer, BadNumber, Malformed, Unmapped, WornOut, NoRoom}
+use Rattle.answers.specs.Answers.{Answer, Accepted}
 
--- a row of the table: its number, the answer that a call gives by it, and whether it applies
+-- a row of the table: its number, the refusal that a call gives by it, and whether it applies
 pub record Row : Type 0 where
   pub number : ℕ
-  pub refusal : Answer
+  pub refusal : Refusal
   pub applies : Bool
 
 -- the answer of a call: the rows are tried in order, and the first that applies is given
 abbrev pub first_that_applies : List Row → Answer
 first_that_applies [] = Accepted
-first_that_applies (r ∷ rs) = cond r.applies r.refusal (first_that_applies rs)
+first_that_applies (r ∷ rs) = cond r.applies (Err r.refusal) (first_that_applies rs)
 
 -- a buffer is one sector
 abbrev pub one_sector : List ℕ → Bool
@@ -42,7 +43,7 @@ module _ (geo : Geometry) (image : Image) where
   row3 n = record { number = 3; refusal = BadNumber; applies = leb geo.logical n }
 
   -- refusal 4: a rule of well-formed images is broken. Every call but a format and a repair tests it, and names the first failing pair (K1).
-  abbrev pub malformed : Answer
+  abbrev pub malformed : Refusal
   malformed = Malformed (first_fault geo image).block (first_fault geo image).rule
 
   abbrev pub row4 : Row
@@ -73,12 +74,16 @@ module _ (geo : Geometry) (image : Image) where
   abbrev pub row6_repair : Row
   row6_repair = record { number = 6; refusal = WornOut; applies = victim_worn geo image }
 
-  -- each call's rows, in the table's order but for a repair's 10, which comes before 6, and its answer; a report refuses as a check does
+  -- each call's rows, in the table's order but for a repair's 10, which comes before 6, and its answer; a report refuses as a check does, and a read
+  -- and a write begin alike
   abbrev pub format_rows : List Row
   format_rows = row1 ∷ []
 
   abbrev pub check_rows : List Row
   check_rows = row1 ∷ row4 ∷ []
+
+  abbrev pub sector_rows : ℕ → List ℕ → List Row
+  sector_rows n buffer = row1 ∷ row2 (one_sector buffer) ∷ row3 n ∷ row4 ∷ []
 
   abbrev pub read_rows : ℕ → List ℕ → List Row
   read_rows n buffer = row1 ∷ row2 (one_sector buffer) ∷ row3 n ∷ row4 ∷ row5 n ∷ []

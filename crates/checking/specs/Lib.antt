@@ -1,1 +1,2 @@
 pub mod OwnKinds
+pub mod FirstFault

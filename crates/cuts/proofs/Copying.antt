@@ -13,7 +13,7 @@ use Rattle.geometry.specs.Geometry.{d}
 use Rattle.image.specs.declared.Slot.{Slot}
 use Rattle.image.specs.declared.Slot.TheVariants.{Free, Live, Dead, Faulty, Superseded}
 use Rattle.image.specs.Words.{Image, contents}
-use Rattle.image.specs.declared.Found.TheVariants.{At}
+use Rattle.image.specs.Found.{At}
 use Rattle.image.specs.Slots.{slot, is_free, is_live, find}
 use Rattle.image.specs.Blocks.{blank, free_slots, live_slots, lowest_free}
 use Rattle.image.proofs.Alike.{live-slots-alike}

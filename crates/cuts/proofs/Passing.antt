@@ -16,8 +16,8 @@ use Rattle.geometry.specs.Geometry.{Limits, d, sector_words}
 use Rattle.geometry.specs.Places.{place, least_word, greatest_word, map_word, entry_word, content_word}
 use Rattle.geometry.proofs.Laws.{logical-small}
 use Rattle.image.specs.declared.Slot.TheVariants.{Live}
-use Rattle.image.specs.declared.Found.{Found}
-use Rattle.image.specs.declared.Found.TheVariants.{At, Nothing}
+use Rattle.image.specs.Found.{Found}
+use Rattle.image.specs.Found.{At, Nothing}
 use Rattle.image.specs.Words.{Image, Words32, word, least_mapped, greatest_mapped, free_map, map_bit, entry, contents}
 use Rattle.image.specs.Slots.{valid_bit, current_bit, is_complete, is_passing, slot_of, has_complete, superseded, own_slot, slot, is_live_for, find}
 use Rattle.image.specs.Blocks.{full}

@@ -14,7 +14,7 @@ use Rattle.geometry.specs.declared.Geometry.{Geometry}
 use Rattle.geometry.specs.Geometry.{d}
 use Rattle.image.specs.declared.Slot.{Slot}
 use Rattle.image.specs.declared.Slot.TheVariants.{Free, Live, Dead}
-use Rattle.image.specs.declared.Found.TheVariants.{At}
+use Rattle.image.specs.Found.{At}
 use Rattle.image.specs.Words.{Image, Shaped, Words32, erase_count, contents}
 use Rattle.image.specs.Slots.{slot, is_free, is_faulty, is_live, find, map_of}
 use Rattle.image.specs.Blocks.{blank, full, free_slots, live_slots}

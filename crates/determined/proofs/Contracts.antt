@@ -141,7 +141,7 @@ every-contract =
           determined end (left (kept ∷ kept ∷ [])) _ nothing (λ w c g o. refl)
           (λ M. records.end.Met.met) (in_records end.code records.Links.end);
       of_reply =
-          determined reply (left (words ∷ count ∷ kept ∷ kept ∷ words ∷ [])) _ nothing (λ w c g o. refl)
+          determined reply (left (words ∷ count ∷ kept ∷ words ∷ [])) _ nothing (λ w c g o. refl)
           (λ M. text.reply.Met.met) (in_text reply.code text.Links.reply);
       of_last =
           determined last (left (kept ∷ kept ∷ words ∷ [])) _ nothing (λ w c g o. refl)

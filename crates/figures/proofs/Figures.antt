@@ -9,8 +9,7 @@ use Rattle.geometry.specs.declared.Geometry.{Geometry}
 use Rattle.ranges.specs.Range.{all_below, any_below, sum_below, list_below, best_below}
 use Rattle.bits.specs.Word.{bit, cleared, shared}
 use Rattle.geometry.specs.Geometry.{shape, image_length, rounded_up, g, within_limits}
-use Rattle.answers.specs.declared.Answer.TheVariants.{Accepted}
-use Rattle.answers.specs.Answers.{number_of}
+use Rattle.answers.specs.Answers.{Accepted, number_of}
 use Rattle.image.specs.Words.{erase_count, least_mapped, greatest_mapped, free_map, entry, contents}
 use Rattle.image.specs.Slots.{is_complete, is_passing, slot_of, has_complete, superseded, own_slot, slot, find}
 use Rattle.image.specs.Blocks.{blank, full, lowest_free, lowest_open, least_worn_blank, victim}

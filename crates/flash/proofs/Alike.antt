@@ -11,8 +11,8 @@ use Rattle.bits.proofs.Programming.{programmed-lt, over-ones-first}
 use Rattle.geometry.specs.declared.Geometry.{Geometry}
 use Rattle.geometry.specs.Geometry.{sector_words}
 use Rattle.geometry.specs.Places.{place, content_word}
-use Rattle.image.specs.declared.Found.{Found}
-use Rattle.image.specs.declared.Found.TheVariants.{At, Nothing}
+use Rattle.image.specs.Found.{Found}
+use Rattle.image.specs.Found.{At, Nothing}
 use Rattle.image.specs.Words.{Image, Words32, word}
 use Rattle.image.specs.Slots.{find}
 use Rattle.image.specs.Blocks.{least_worn_blank, victim}

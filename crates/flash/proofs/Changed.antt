@@ -10,8 +10,9 @@ use Rattle.geometry.specs.declared.Geometry.{Geometry}
 use Rattle.geometry.specs.Geometry.{d}
 use Rattle.image.specs.declared.Slot.{Slot}
 use Rattle.image.specs.declared.Slot.TheVariants.{Free, Live, Dead, Superseded}
-use Rattle.image.specs.declared.Found.{Found}
-use Rattle.image.specs.declared.Found.TheVariants.{At, Nothing}
+use Rattle.image.proofs.SlotKinds.{same_place}
+use Rattle.image.specs.Found.{Found}
+use Rattle.image.specs.Found.{At, Nothing}
 use Rattle.image.specs.Words.{Image}
 use Rattle.image.specs.Slots.{slot, is_live, find}
 use Rattle.image.proofs.Own.{Once}
@@ -40,8 +41,8 @@ at_slot c j b i here other =
 
 pub other_place : {b c i j : ℕ} → (b ≡ c → i ≡ j → ⊥) → At b i ≡ At c j → ⊥
 other_place {b} {c} {i} {j} n e =
-    let p : b ≡ c = cc in
-    let q : i ≡ j = cc in
+    let p : b ≡ c = (same_place e).0 in
+    let q : i ≡ j = (same_place e).1 in
     n p q
 
 pub found_at : (f : Found) (c j : ℕ) → Dec (f ≡ At c j)

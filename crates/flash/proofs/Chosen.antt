@@ -15,7 +15,7 @@ use Rattle.geometry.specs.declared.Geometry.{Geometry}
 use Rattle.geometry.specs.Geometry.{Limits, d}
 use Rattle.geometry.proofs.Laws.{d-positive}
 use Rattle.image.specs.declared.Slot.TheVariants.{Free}
-use Rattle.image.specs.declared.Found.TheVariants.{At}
+use Rattle.image.specs.Found.{At}
 use Rattle.image.specs.Words.{Image}
 use Rattle.image.specs.Slots.{slot, is_free}
 use Rattle.image.specs.Blocks.{blank, full, is_open, lowest_free, lowest_open, less_worn, least_worn_blank}

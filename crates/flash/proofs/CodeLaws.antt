@@ -1,20 +1,20 @@
 -- What the code of this crate does, as steps: laws that several functions share. Assumes nothing.
 use mathlib.Core.List.{[], ◌∷◌}
 use mathlib.Core.Path.{◌≡◌, sym, ap, ◌∙◌}
-use Prim.Native.Nat.{ℕ, ◌-◌, ◌<◌}
+use Prim.Native.Nat.{ℕ, ◌<◌}
 use native.Mathlib.Omega.{arith}
 use lib.ListN.{length}
 use lib.Seq.{take-nil}
 use Rattle.geometry.specs.declared.Geometry.{Geometry}
 use Rattle.geometry.specs.Places.{place, entry_word}
-use Rattle.image.specs.declared.Found.{Found}
-use Rattle.image.specs.declared.Found.TheVariants.{At}
+use Rattle.image.specs.Found.{Found}
+use Rattle.image.specs.Found.{At}
 use Rattle.image.specs.Words.{Image, Shaped}
 use Rattle.image.specs.Slots.{find}
 use Rattle.image.proofs.Finding.{found-live}
 use Rattle.image.proofs.Reading.{entry-inside}
 use Rattle.flash.specs.declared.Step.TheVariants.{Program}
-use Rattle.flash.specs.Steps.{programmed_at, applied, run, first_of}
+use Rattle.flash.specs.Steps.{programmed_at, applied, run}
 use Rattle.flash.specs.Placing.{InImage}
 use Rattle.flash.proofs.Stores.{run_none}
 use Rattle.flash.proofs.Parts.{Carried}
@@ -43,15 +43,6 @@ module _ (geo : Geometry) where
       (image : Image) {after : Image} {p q w v : ℕ} → after ≡ programmed_at image p w → p ≡ q → w ≡ v → after ≡ run geo image (Program q v ∷ [])
   unfolding run applied
   run-program image e p w = e ∙ rw (p, w)
-
-  -- one word programmed as a step of those that are left, likewise
-  pub program-carried :
-      (image : Image) (left : ℕ) {after : Image} {rest p q w v : ℕ} →
-      (rest ≡ left - 1) × ((any : Geometry) → after ≡ run any image (first_of left (Program p w ∷ []))) →
-      p ≡ q →
-      w ≡ v →
-      Carried geo image left (Program q v ∷ []) rest after
-  program-carried image left done p w = rw (← p, ← w) (done.0, done.1 geo)
 
   -- no step
   pub nothing-carried : (image : Image) (left : ℕ) → Carried geo image left [] left image

@@ -11,8 +11,8 @@ use Rattle.bits.specs.Word.{cleared}
 use Rattle.geometry.specs.declared.Geometry.{Geometry}
 use Rattle.geometry.specs.Geometry.{sector_words}
 use Rattle.geometry.specs.Places.{place, entry_word, content_word}
-use Rattle.image.specs.declared.Found.{Found}
-use Rattle.image.specs.declared.Found.TheVariants.{At, Nothing}
+use Rattle.image.specs.Found.{Found}
+use Rattle.image.specs.Found.{At, Nothing}
 use Rattle.image.specs.Words.{Image}
 use Rattle.image.specs.Slots.{valid_bit, is_at, find, is_mapped}
 use Rattle.image.specs.Blocks.{full, lowest_free, lowest_open, least_worn_blank}

@@ -17,8 +17,8 @@ use Rattle.geometry.specs.Geometry.{Limits, d, k, block_length, sector_words}
 use Rattle.geometry.specs.Places.{place, map_word, entry_word, content_word}
 use Rattle.geometry.proofs.Laws.{logical-small, management-fits, map-word-inside, low-in-block, entry-in-block, map-covers, entry-word-inside, content-word-inside, content-word-after}
 use Rattle.image.specs.declared.Slot.TheVariants.{Free, Live}
-use Rattle.image.specs.declared.Found.{Found}
-use Rattle.image.specs.declared.Found.TheVariants.{At, Nothing}
+use Rattle.image.specs.Found.{Found}
+use Rattle.image.specs.Found.{At, Nothing}
 use Rattle.image.specs.Words.{Image, Shaped, Words32, word, free_map, entry}
 use Rattle.image.specs.Slots.{valid_bit, current_bit, slot, is_free, find}
 use Rattle.image.specs.Blocks.{full}

@@ -13,7 +13,7 @@ use Rattle.geometry.specs.Geometry.{Limits, d, k, block_length}
 use Rattle.geometry.specs.Places.{place, erase_word, least_word, greatest_word, map_word, entry_word, content_word}
 use Rattle.geometry.proofs.Laws.{low-in-block, entry-in-block, map-word-inside, map-covers, entry-word-inside, content-word-inside, content-word-after}
 use Rattle.image.specs.declared.Slot.TheVariants.{Dead}
-use Rattle.image.specs.declared.Found.TheVariants.{At}
+use Rattle.image.specs.Found.{At}
 use Rattle.image.specs.Words.{Image, Words32, Shaped, word, erase_count, least_mapped, greatest_mapped, free_map, map_bit, entry, contents}
 use Rattle.image.specs.Slots.{valid_bit, slot_of, own_slot}
 use Rattle.image.proofs.Entries.{invalid-dead}

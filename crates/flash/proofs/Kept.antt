@@ -18,7 +18,7 @@ use Rattle.geometry.specs.Geometry.{Limits, d, k}
 use Rattle.geometry.proofs.Laws.{logical-small}
 use Rattle.image.specs.declared.Slot.{Slot}
 use Rattle.image.specs.declared.Slot.TheVariants.{Free, Live}
-use Rattle.image.specs.declared.Found.TheVariants.{At}
+use Rattle.image.specs.Found.{At}
 use Rattle.image.specs.Words.{Image, least_mapped, greatest_mapped, map_bit}
 use Rattle.image.specs.Slots.{slot, is_free, is_live_for, live_in, find, map_of}
 use Rattle.image.specs.Blocks.{full, free_slots}

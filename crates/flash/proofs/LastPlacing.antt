@@ -17,8 +17,8 @@ use Rattle.ranges.proofs.Searches.{best-passes, best-some, best-least, best-ext,
 use Rattle.geometry.specs.declared.Geometry.{Geometry}
 use Rattle.geometry.specs.Geometry.{d}
 use Rattle.image.specs.declared.Slot.TheVariants.{Free, Live}
-use Rattle.image.specs.declared.Found.{Found}
-use Rattle.image.specs.declared.Found.TheVariants.{At, Nothing}
+use Rattle.image.specs.Found.{Found}
+use Rattle.image.specs.Found.{At, Nothing}
 use Rattle.image.specs.Words.{Image, erase_count}
 use Rattle.image.specs.Slots.{slot, is_free, is_live, is_live_for, live_in, find}
 use Rattle.image.specs.Blocks.{blank, full, is_open, free_slots, live_slots, lowest_free, lowest_open, less_worn, least_worn_blank}

@@ -25,4 +25,5 @@ pub mod Tables
 pub mod Invalidated
 pub mod Released
 pub mod Planned
+pub mod RunLaws
 pub mod Links

@@ -15,8 +15,8 @@ use Rattle.geometry.specs.declared.Geometry.{Geometry}
 use Rattle.geometry.specs.Geometry.{d}
 use Rattle.image.specs.declared.Slot.{Slot}
 use Rattle.image.specs.declared.Slot.TheVariants.{Free, Live, Dead, Faulty, Superseded}
-use Rattle.image.specs.declared.Found.{Found}
-use Rattle.image.specs.declared.Found.TheVariants.{At}
+use Rattle.image.specs.Found.{Found}
+use Rattle.image.specs.Found.{At}
 use Rattle.image.specs.Words.{Image, Words32, erase_count, entry, contents}
 use Rattle.image.specs.Slots.{slot, is_free, is_live, find, map_of, is_at}
 use Rattle.image.specs.Blocks.{full, free_slots, live_slots, lowest_free}

@@ -20,8 +20,8 @@ use Rattle.geometry.specs.Geometry.{Limits, d, k, block_length, sector_words}
 use Rattle.geometry.specs.Places.{place, erase_word, least_word, greatest_word, map_word, entry_word, content_word}
 use Rattle.geometry.proofs.Laws.{logical-small, low-in-block, entry-in-block, management-fits, map-word-inside, map-covers, entry-word-inside, content-word-inside, content-word-after, content-word-injective}
 use Rattle.image.specs.declared.Slot.TheVariants.{Live, Dead}
-use Rattle.image.specs.declared.Found.{Found}
-use Rattle.image.specs.declared.Found.TheVariants.{At}
+use Rattle.image.specs.Found.{Found}
+use Rattle.image.specs.Found.{At}
 use Rattle.image.specs.Words.{Image, Shaped, Words32, word, erase_count, least_mapped, greatest_mapped, free_map, map_bit, entry, contents}
 use Rattle.image.specs.Slots.{valid_bit, current_bit, slot, own_slot, slot_of, is_free, is_live_for, live_in, find, is_at}
 use Rattle.image.specs.Blocks.{full}

@@ -1,6 +1,6 @@
 -- How a write goes about it, from what the code finds to the definitions. Assumes nothing.
 use mathlib.Core.Path.{◌≡◌, refl, sym, ◌∙◌}
-use mathlib.Core.Bool.{Bool, true, false, cond, ◌&&◌}
+use mathlib.Core.Bool.{Bool, true, false, cond}
 use mathlib.Core.List.{List}
 use Prim.Native.Nat.{ℕ, ◌<◌, ◌≤◌}
 use native.Mathlib.Decide.{dec_lt}
@@ -12,16 +12,16 @@ use Rattle.ranges.proofs.Tests.{unless, any_of}
 use Rattle.ranges.proofs.Searches.{best-passes, best-any}
 use Rattle.geometry.specs.declared.Geometry.{Geometry}
 use Rattle.geometry.specs.Geometry.{d}
-use Rattle.image.specs.declared.Found.TheVariants.{At, Nothing}
+use Rattle.image.proofs.SlotKinds.{same_place}
+use Rattle.image.specs.Found.{At, Nothing}
 use Rattle.image.specs.declared.Slot.TheVariants.{Free}
 use Rattle.image.specs.Words.{Image, erase_count}
 use Rattle.image.specs.Slots.{slot, is_free}
 use Rattle.image.specs.Blocks.{blank, is_open, lowest_free, lowest_open, less_worn, least_worn_blank, victim}
 use Rattle.image.specs.WellFormed.{ceiling, R6}
 use Rattle.tables.specs.Tables.{Table, noted}
-use Rattle.flash.specs.declared.Plan.TheVariants.{Fill, Reclaim, Worn}
 use Rattle.flash.specs.Placing.{placing}
-use Rattle.flash.specs.Writing.{open_slot, blank_slot, any_open, next_slot, filling, must_reclaim, reclaiming_first, writing, planned}
+use Rattle.flash.specs.Writing.{Fill, Reclaim, Worn, open_slot, blank_slot, any_open, next_slot, filling, must_reclaim, reclaiming_first, writing, planned}
 use Rattle.flash.specs.Tables.{table_filled, table_reclaimed_first, table_written}
 use Rattle.image.proofs.Facts.{free-is}
 use Rattle.flash.proofs.Chosen.{open_free, blank-slot}
@@ -107,8 +107,8 @@ module _ (geo : Geometry) (image : Image) where
           (b < geo.blocks) × (i < d geo) × (slot geo image b i ≡ Free)
       moved {c} {j} f h =
           let same = sym e ∙ f in
-          let p : b ≡ c = cc in
-          let q : i ≡ j = cc in
+          let p : b ≡ c = (same_place (sym e ∙ f)).0 in
+          let q : i ≡ j = (same_place (sym e ∙ f)).1 in
           rw (p, q) h
 
       go : Dec (lowest_open geo image < geo.blocks) → (b < geo.blocks) × (i < d geo) × (slot geo image b i ≡ Free)
@@ -153,15 +153,6 @@ module _ (geo : Geometry) (image : Image) where
       go true p true r = let z : ◌≡◌ {A = ℕ} 0 1 = cc in absurd (omega arith)
       go true p false r = let z : ◌≡◌ {A = ℕ} 0 1 = cc in absurd (omega arith)
       go false p y r = p
-
-  pub worn-says : planned geo image ≡ Worn → (must_reclaim geo image && eqb (erase_count geo image (victim geo image)) ceiling) ≡ true
-  unfolding planned
-  worn-says e = go (must_reclaim geo image) (eqb (erase_count geo image (victim geo image)) ceiling) e
-    where
-      go : (x y : Bool) → cond x (cond y Worn (Reclaim (victim geo image))) Fill ≡ Worn → (x && y) ≡ true
-      go true true r = refl
-      go true false r = let z : ◌≡◌ {A = ℕ} 0 1 = cc in absurd (omega arith)
-      go false y r = let z : ◌≡◌ {A = ℕ} 0 1 = cc in absurd (omega arith)
 
   -- the steps of a write by its plan
   pub writing-fills : must_reclaim geo image ≡ false → (n : ℕ) (ws : List ℕ) → writing geo image n ws ≡ filling geo image n ws

@@ -14,7 +14,7 @@ use Rattle.geometry.specs.declared.Geometry.{Geometry}
 use Rattle.geometry.specs.Geometry.{Limits, d}
 use Rattle.geometry.proofs.Laws.{map-covers}
 use Rattle.image.specs.declared.Slot.TheVariants.{Live, Dead}
-use Rattle.image.specs.declared.Found.TheVariants.{At, Nothing}
+use Rattle.image.specs.Found.{At, Nothing}
 use Rattle.image.specs.Words.{Image, erase_count}
 use Rattle.image.specs.Slots.{own_slot, slot, is_free, is_live, is_faulty, find, map_of}
 use Rattle.image.specs.Blocks.{blank, full, free_slots}

@@ -14,8 +14,8 @@ use Rattle.geometry.specs.declared.Geometry.{Geometry}
 use Rattle.geometry.specs.Geometry.{d}
 use Rattle.image.specs.declared.Slot.{Slot}
 use Rattle.image.specs.declared.Slot.TheVariants.{Free, Live, Dead, Faulty, Superseded}
-use Rattle.image.specs.declared.Found.{Found}
-use Rattle.image.specs.declared.Found.TheVariants.{At}
+use Rattle.image.specs.Found.{Found}
+use Rattle.image.specs.Found.{At}
 use Rattle.image.specs.Words.{Image, erase_count}
 use Rattle.image.specs.Slots.{slot, is_live_for, live_in, find}
 use Rattle.image.specs.Blocks.{lowest_free, least_worn_blank, victim}

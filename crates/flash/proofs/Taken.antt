@@ -13,7 +13,7 @@ use Rattle.geometry.specs.Geometry.{Limits, d, k, sector_words}
 use Rattle.geometry.proofs.Laws.{map-covers}
 use Rattle.image.specs.declared.Slot.{Slot}
 use Rattle.image.specs.declared.Slot.TheVariants.{Free, Live}
-use Rattle.image.specs.declared.Found.TheVariants.{At}
+use Rattle.image.specs.Found.{At}
 use Rattle.image.specs.Words.{Image, erase_count, least_mapped, greatest_mapped, map_bit, contents}
 use Rattle.image.specs.Slots.{slot, is_free, is_live, is_faulty, find, map_of}
 use Rattle.image.specs.Blocks.{blank, full}

@@ -14,8 +14,8 @@ use Rattle.geometry.specs.declared.Geometry.{Geometry}
 use Rattle.geometry.specs.Geometry.{Limits, d, block_length, sector_words}
 use Rattle.geometry.specs.Places.{place, erase_word, least_word, greatest_word, map_word, entry_word, content_word, Unused}
 use Rattle.geometry.proofs.Laws.{map-covers, map-word-inside, low-in-block, map-in-block, entry-in-block, management-inside, content-word-inside, content-word-after}
-use Rattle.image.specs.declared.Found.{Found}
-use Rattle.image.specs.declared.Found.TheVariants.{At, Nothing}
+use Rattle.image.specs.Found.{Found}
+use Rattle.image.specs.Found.{At, Nothing}
 use Rattle.image.specs.Words.{Image, erase_count}
 use Rattle.image.specs.Slots.{valid_bit, find}
 use Rattle.image.specs.Blocks.{full}

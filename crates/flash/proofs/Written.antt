@@ -24,11 +24,10 @@ use Rattle.image.specs.WellFormed.{ceiling, R6, well_formed}
 use Rattle.image.proofs.Capacity.{block-parts, blank-free, full-free, shut-full, blank-not-full, free-is-a-block, victim-dead}
 use Rattle.image.proofs.Facts.{sound-facts, formed-sound}
 use Rattle.tables.specs.Tables.{right_table}
-use Rattle.flash.specs.declared.Plan.TheVariants.{Reclaim}
 use Rattle.flash.specs.declared.Step.{Step}
 use Rattle.flash.specs.Steps.{run, words_in, erasures_in, erases_block, leaves_asked}
 use Rattle.flash.specs.Placing.{placing}
-use Rattle.flash.specs.Writing.{EachInTurn, filling, must_reclaim, copying, at_turn, reclaiming, reclaiming_first, writing, planned}
+use Rattle.flash.specs.Writing.{Reclaim, EachInTurn, filling, must_reclaim, copying, at_turn, reclaiming, reclaiming_first, writing, planned}
 use Rattle.flash.specs.Tables.{table_copied, table_reclaimed, table_filled, table_reclaimed_first, table_written}
 use Rattle.flash.proofs.Stores.{run-append, asked-append, words_append, erasures-append}
 use Rattle.flash.proofs.Clearing.{erases-append, erases-none}

@@ -7,8 +7,8 @@ use Rattle.bits.specs.Word.{cleared}
 use Rattle.geometry.specs.declared.Geometry.{Geometry}
 use Rattle.geometry.specs.Geometry.{d}
 use Rattle.geometry.specs.Places.{place, map_word}
-use Rattle.image.specs.declared.Found.{Found}
-use Rattle.image.specs.declared.Found.TheVariants.{At, Nothing}
+use Rattle.image.specs.Found.{Found}
+use Rattle.image.specs.Found.{At, Nothing}
 use Rattle.image.specs.Words.{Image, erase_count, free_map, entry}
 use Rattle.image.specs.Slots.{valid_bit, current_bit, slot, is_free, is_live, find, live_in}
 use Rattle.image.specs.Blocks.{free_slots, live_slots}

@@ -4,3 +4,4 @@ pub mod Writing
 pub mod Repairing
 pub mod Ahead
 pub mod Tables
+pub mod Runs

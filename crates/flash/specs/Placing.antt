@@ -5,8 +5,8 @@ use Rattle.bits.specs.Word.{cleared}
 use Rattle.geometry.specs.declared.Geometry.{Geometry}
 use Rattle.geometry.specs.Geometry.{d, sector_words}
 use Rattle.geometry.specs.Places.{place, least_word, greatest_word, map_word, entry_word, content_word}
-use Rattle.image.specs.declared.Found.{Found}
-use Rattle.image.specs.declared.Found.TheVariants.{At, Nothing}
+use Rattle.image.specs.Found.{Found}
+use Rattle.image.specs.Found.{At, Nothing}
 use Rattle.image.specs.Words.{Image, free_map, entry}
 use Rattle.image.specs.Slots.{valid_bit, current_bit, find, live_in}
 use Rattle.image.specs.Blocks.{full}

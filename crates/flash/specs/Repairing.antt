@@ -4,7 +4,7 @@ use Rattle.ranges.specs.Range.{join_below, largest_below}
 use Rattle.geometry.specs.declared.Geometry.{Geometry}
 use Rattle.geometry.specs.Geometry.{d}
 use Rattle.geometry.specs.Places.{place, erase_word, least_word, greatest_word}
-use Rattle.image.specs.declared.Found.TheVariants.{At}
+use Rattle.image.specs.Found.{At}
 use Rattle.image.specs.Words.{Image, erase_count}
 use Rattle.image.specs.Slots.{superseded}
 use Rattle.image.specs.Blocks.{full, free_slots, live_slots, lowest_open, victim}

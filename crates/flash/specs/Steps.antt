@@ -7,7 +7,6 @@ use Rattle.geometry.specs.Places.{place}
 use Rattle.image.specs.Words.{Image, word}
 use Rattle.flash.specs.declared.Step.{Step}
 use Rattle.flash.specs.declared.Step.TheVariants.{Program, Erase}
-use Rattle.flash.specs.declared.Progress.{Progress}
 use Rattle.flash.specs.declared.NextStep.{NextStep}
 use Rattle.flash.specs.declared.NextStep.TheVariants.{Next, Done}
 
@@ -70,6 +69,10 @@ step_at (s ∷ ss) (suc i) = step_at ss i
 abbrev pub first_of : ℕ → List Step → List Step
 first_of j steps = take j steps
 
--- how far the first `most` steps of a list come
+-- how far the first `most` steps of a list come: how many are left of those that may be done, and how many blocks were erased
+pub record Progress : Type 0 where
+  pub left : ℕ
+  pub erasures : ℕ
+
 abbrev pub progress : ℕ → List Step → Progress
 progress most steps = record { left = most - length steps; erasures = erasures_in (first_of most steps) }

@@ -2,7 +2,7 @@
 use Rattle.std.specs.Prelude.{cond, ℕ, zero, suc}
 use Rattle.geometry.specs.declared.Geometry.{Geometry}
 use Rattle.geometry.specs.Geometry.{d}
-use Rattle.image.specs.declared.Found.TheVariants.{At, Nothing}
+use Rattle.image.specs.Found.{At, Nothing}
 use Rattle.image.specs.Words.{Image}
 use Rattle.image.specs.Slots.{slot}
 use Rattle.image.specs.Blocks.{lowest_free, least_worn_blank, victim}

@@ -4,20 +4,24 @@ use Rattle.ranges.specs.Range.{any_below, count_below}
 use Rattle.geometry.specs.declared.Geometry.{Geometry}
 use Rattle.geometry.specs.Geometry.{d}
 use Rattle.geometry.specs.Places.{place, erase_word}
-use Rattle.image.specs.declared.Found.{Found}
-use Rattle.image.specs.declared.Found.TheVariants.{At, Nothing}
+use Rattle.image.specs.Found.{Found}
+use Rattle.image.specs.Found.{At, Nothing}
 use Rattle.image.specs.declared.Slot.{Slot}
 use Rattle.image.specs.declared.Slot.TheVariants.{Free, Live, Dead, Faulty, Superseded}
 use Rattle.image.specs.Words.{Image, erase_count, contents}
 use Rattle.image.specs.Slots.{slot, find}
 use Rattle.image.specs.Blocks.{blank, is_open, lowest_free, lowest_open, least_worn_blank, victim}
 use Rattle.image.specs.WellFormed.{ceiling, sound}
-use Rattle.flash.specs.declared.Plan.{Plan}
-use Rattle.flash.specs.declared.Plan.TheVariants.{Fill, Reclaim, Worn}
 use Rattle.flash.specs.declared.Step.{Step}
 use Rattle.flash.specs.declared.Step.TheVariants.{Program, Erase}
 use Rattle.flash.specs.Steps.{run}
 use Rattle.flash.specs.Placing.{placing}
+
+-- how a write goes about it: by rule 1 or 2; by rule 3 with this victim; or not, since the victim's count is at the ceiling
+pub data Plan : Type 0 where
+  Fill : Plan
+  Reclaim : ℕ → Plan
+  Worn : Plan
 
 module _ (geo : Geometry) where
   -- rule 1: the first free slot of the first open block

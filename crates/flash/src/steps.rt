@@ -28,7 +28,8 @@ pub fn program_within(image: &mut [u32], place: usize, asked: u32, left: u32) ->
     left - 1
 }
 
-// Sets every word of a part to ones.
+// Sets every word of a part to ones. (A loop, and not `fill`: no function of std is called in what the public calls stand on; ranges/src/lib.rt
+// says why.)
 pub fn erase(part: &mut [u32])
     ensures { part.new ≡ replicate (length part.old) ones }
 {

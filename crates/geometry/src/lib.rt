@@ -1,16 +1,35 @@
 #![tactic(auto)]
 
-ghost use Rattle.std.specs.Prelude.{◌≡◌, ◌<◌};
+// No function of std is called in what the public calls stand on (ranges/src/lib.rt says why): so `saturating_sub`, `div_ceil` and `contains` are
+// written out here.
+ghost use Rattle.std.specs.Prelude.{◌&&◌, ◌≡◌, ◌<◌, ◌-◌, leb};
 ghost use Rattle.geometry.specs.Geometry.{d, k, g, block_length, image_length, within_limits, Limits};
 ghost use Rattle.geometry.specs.Places.{place, erase_word, map_word, entry_word, content_word};
 
 // The three numbers B, S and L (FORMAT.md, Geometry), by value. Any three may be handed in:
 // each method is total, and what it gives is what specs/Geometry.antt says, within the limits or not.
-#[derive(Clone, Copy)]
+#[derive(Clone, Copy, Debug, PartialEq, Eq)]
 pub struct Geometry {
     pub blocks: u16,
     pub sectors: u16,
     pub logical: u32,
+}
+
+// Whether a number of blocks, or of sectors in a block, is within its limits.
+fn is_side(n: u16) -> bool
+    ensures { result ≡ (leb 2 n && leb n 64) }
+{
+    (2 <= n) & (n <= 64)
+}
+
+// All of so many but one; 0 of none.
+fn all_but_one(n: u16) -> usize
+    ensures { result ≡ n - 1 }
+{
+    if n == 0 {
+        return 0;
+    }
+    n as usize - 1
 }
 
 impl Geometry {
@@ -18,11 +37,7 @@ impl Geometry {
     pub fn d(self) -> usize
         ensures { result ≡ d self }
     {
-        let sectors = self.sectors as usize;
-        if sectors == 0 {
-            return 0;
-        }
-        sectors - 1
+        all_but_one(self.sectors)
     }
 
     // The words of a block's free map.
@@ -50,12 +65,8 @@ impl Geometry {
     pub fn g(self) -> usize
         ensures { result ≡ g self }
     {
-        let blocks = self.blocks as usize;
         let logical = self.logical as usize;
-        if blocks < 2 {
-            return 0;
-        }
-        let others = blocks - 1;
+        let others = all_but_one(self.blocks);
         let room = others * self.d();
         if room <= logical {
             return 0;
@@ -67,25 +78,9 @@ impl Geometry {
     pub fn within_limits(self) -> bool
         ensures { result ≡ within_limits self }
     {
-        let blocks = self.blocks as usize;
-        let sectors = self.sectors as usize;
         let logical = self.logical as usize;
-        if blocks < 2 {
-            return false;
-        }
-        if 64 < blocks {
-            return false;
-        }
-        if sectors < 2 {
-            return false;
-        }
-        if 64 < sectors {
-            return false;
-        }
-        if logical < 1 {
-            return false;
-        }
-        logical < (blocks - 1) * self.d()
+        let room = all_but_one(self.blocks) * self.d();
+        is_side(self.blocks) & is_side(self.sectors) & ((1 <= logical) & (logical < room))
     }
 
     // Where block b starts. These four say where things lie, for a block of a geometry that is within its limits.

@@ -110,14 +110,13 @@ unfinished-dead l e w seven =
     go false = refl
 
 -- all of them in the order in which the code asks
-pub slot-word :
+pub slot-tests :
     (l : ℕ) (set : Bool) (e : ℕ) →
-    e < 2 ^ 32 →
     slot_of l set e
-    ≡ cond (eqb (e / 2 ^ 29) 6 || eqb (e / 2 ^ 29) 4)
-    (cond (ltb (e % 2 ^ 29) l) (Live (e % 2 ^ 29)) (cond (eqb (e / 2 ^ 29) 6) Faulty Dead))
+    ≡ cond (is_complete e || is_passing e)
+    (cond (ltb (e % 2 ^ 29) l) (Live (e % 2 ^ 29)) (cond (is_complete e) Faulty Dead))
     (cond (eqb e ones) (cond set Free Dead) Dead)
-slot-word l set e w = rw (← complete-is-6 e w, ← passing-is-4 e w) (go (is_complete e) (is_passing e) refl refl)
+slot-tests l set e = go (is_complete e) (is_passing e) refl refl
   where
     go :
         (c p : Bool) →
@@ -128,6 +127,15 @@ slot-word l set e w = rw (← complete-is-6 e w, ← passing-is-4 e w) (go (is_c
     go true p c q = complete-slot l set e c
     go false true c q = passing-slot l set e q
     go false false c q = other-slot l set e c q
+
+pub slot-word :
+    (l : ℕ) (set : Bool) (e : ℕ) →
+    e < 2 ^ 32 →
+    slot_of l set e
+    ≡ cond (eqb (e / 2 ^ 29) 6 || eqb (e / 2 ^ 29) 4)
+    (cond (ltb (e % 2 ^ 29) l) (Live (e % 2 ^ 29)) (cond (eqb (e / 2 ^ 29) 6) Faulty Dead))
+    (cond (eqb e ones) (cond set Free Dead) Dead)
+slot-word l set e w = rw (← complete-is-6 e w, ← passing-is-4 e w) (slot-tests l set e)
 
 -- an entry that is not valid is dead, whatever else it says: as step (f) and a release leave it
 pub invalid-dead : (l : ℕ) (set : Bool) (e : ℕ) → is_set e valid_bit ≡ false → slot_of l set e ≡ Dead
@@ -172,7 +180,7 @@ free-test l set e = go (eqb e ones) set (is_complete e) (is_passing e) (ltb (e %
     go false s false false t = refl
 
 -- a test that does not tell a free slot from a dead one does not look at the map bit
-pub any-bit : (f : Slot → Bool) → f Free ≡ f Dead → (l : ℕ) (set set' : Bool) (e : ℕ) → f (slot_of l set e) ≡ f (slot_of l set' e)
+pub any-bit : {A : Type 0} (f : Slot → A) → f Free ≡ f Dead → (l : ℕ) (set set' : Bool) (e : ℕ) → f (slot_of l set e) ≡ f (slot_of l set' e)
 unfolding slot_of
 any-bit f same l set set' e = go (eqb e ones) set set'
   where

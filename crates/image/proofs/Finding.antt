@@ -10,11 +10,12 @@ use Rattle.ranges.proofs.Searches.{best-passes, best-any, first-is}
 use Rattle.geometry.specs.declared.Geometry.{Geometry}
 use Rattle.geometry.specs.Geometry.{d}
 use Rattle.image.specs.declared.Slot.TheVariants.{Live}
-use Rattle.image.specs.declared.Found.{Found}
-use Rattle.image.specs.declared.Found.TheVariants.{At, Nothing}
+use Rattle.image.specs.Found.{Found}
+use Rattle.image.specs.Found.{At, Nothing}
 use Rattle.image.specs.Words.{Image, contents}
 use Rattle.image.specs.Slots.{slot, is_live_for, live_in, find, map_of}
 use Rattle.image.proofs.Own.{Once}
+use Rattle.image.proofs.SlotKinds.{same_place}
 use Rattle.image.proofs.Facts.{live-for, live-is-for}
 
 -- what `At b i` says
@@ -45,8 +46,8 @@ module _ (geo : Geometry) (image : Image) where
           let holds = best-passes (λ i r. false) geo.blocks (λ b. live_in geo image b n) block in
           let inside = best-any (λ i r. false) (d geo) (λ i. is_live_for n (slot geo image (first_block n) i)) holds in
           let lives = best-passes (λ i r. false) (d geo) (λ i. is_live_for n (slot geo image (first_block n) i)) inside in
-          let eb : first_block n ≡ b = cc in
-          let ei : first_slot n (first_block n) ≡ i = cc in
+          let eb : first_block n ≡ b = (same_place e).0 in
+          let ei : first_slot n (first_block n) ≡ i = (same_place e).1 in
           record {
             block = rw eb at block;
             slot_is = rw ei at inside;

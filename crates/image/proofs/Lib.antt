@@ -1,5 +1,6 @@
 pub mod Entries
 pub mod Own
+pub mod SlotKinds
 pub mod Reading
 pub mod Alike
 pub mod Facts

@@ -91,9 +91,12 @@ module _ (geo : Geometry) (image : Image) where
       go false t = sym (slot-own b i t) ∙ e
 
   -- so its number is one of the numbers
-  pub live-number : (b i : ℕ) {n : ℕ} → slot geo image b i ≡ Live n → n < geo.logical
+  pub own-number : (b i : ℕ) {n : ℕ} → own_slot geo image b i ≡ Live n → n < geo.logical
   unfolding own_slot
-  live-number b i {n} e = (live-parts geo.logical (map_bit geo image b i) (entry geo image b i) n (live_own b i e)).2
+  own-number b i {n} e = (live-parts geo.logical (map_bit geo image b i) (entry geo image b i) n e).2
+
+  pub live-number : (b i : ℕ) {n : ℕ} → slot geo image b i ≡ Live n → n < geo.logical
+  live-number b i e = own-number b i (live_own b i e)
 
   -- A superseded slot, which is not complete, and another whose entry is complete for its number: by their own entries both are live for it.
   pub record Replaced (b i : ℕ) : Type 0 where

@@ -2,17 +2,17 @@
 use mathlib.Core.Path.{◌≡◌, sym, ap, ◌∙◌}
 use mathlib.Core.Logic.{◌≢◌}
 use mathlib.Core.List.{List}
-use Prim.Native.Nat.{ℕ, ◌+◌, ◌^◌, ◌<◌}
+use Prim.Native.Nat.{ℕ, ◌+◌, ◌*◌, ◌-◌, ◌/◌, ◌^◌, ◌≤◌, ◌<◌}
 use native.Mathlib.Decide.{dec_lt}
 use native.Mathlib.Omega.{arith}
 use lib.ListN.{length, get_or, drop, length-take, length-drop, get_or-eq_default}
 use lib.Seq.{get_or-take, get_or-drop, ext_get_or}
 use Rattle.geometry.specs.declared.Geometry.{Geometry}
-use Rattle.geometry.specs.Geometry.{d, block_length, sector_words}
-use Rattle.geometry.specs.Places.{place, content_word}
-use Rattle.geometry.proofs.Laws.{place-injective}
-use Rattle.image.specs.Words.{Image, Shaped, Words32, word, contents}
-use Rattle.image.proofs.Reading.{contents-inside}
+use Rattle.geometry.specs.Geometry.{d, k, block_length, sector_words}
+use Rattle.geometry.specs.Places.{place, map_word, entry_word, content_word}
+use Rattle.geometry.proofs.Laws.{place-injective, d-positive, k-positive}
+use Rattle.image.specs.Words.{Image, Shaped, Words32, word, map_words, free_map, entry, entries, contents}
+use Rattle.image.proofs.Reading.{map-inside, entry-inside, contents-inside}
 
 -- words of different blocks, or different words of one
 pub apart : (geo : Geometry) {b c i j : ℕ} → i < block_length geo → j < block_length geo → (b ≡ c → i ≡ j → ⊥) → place geo b i ≢ place geo c j
@@ -32,6 +32,45 @@ module _ (geo : Geometry) (image : Image) where
   unfolding contents
   contents-long shaped {b} {i} l h =
       simp (length-take, length-drop) (omega (arith, contents-inside geo image shaped {b = b} {i = i} l h))
+
+-- The map's words and the entries of a block as parts of the image: where they end, how many they are, and which words of the image.
+module _ (geo : Geometry) (image : Image) (shaped : Shaped geo image) {b : ℕ} (l : b < geo.blocks) where
+  pub map-room : place geo b (map_word 0) + k geo ≤ length image
+  map-room =
+      let one = k-positive geo shaped.limits in
+      omega (arith, map-inside geo image shaped {b = b} {i = (k geo - 1) * 32} l (omega arith))
+
+  pub map-long : length (map_words geo image b) ≡ k geo
+  unfolding map_words
+  map-long = simp (length-take, length-drop) (omega (arith, map-room))
+
+  pub entries-room : place geo b (entry_word geo 0) + d geo ≤ length image
+  entries-room =
+      let one = d-positive geo shaped.limits in
+      omega (arith, entry-inside geo image shaped {b = b} {i = d geo - 1} l (omega arith))
+
+  pub entries-long : length (entries geo image b) ≡ d geo
+  unfolding entries
+  entries-long = simp (length-take, length-drop) (omega (arith, entries-room))
+
+module _ (geo : Geometry) (image : Image) (b : ℕ) where
+  pub map-at : (m : ℕ) → m < k geo → get_or (map_words geo image b) m 0 ≡ word image (place geo b (map_word 0) + m)
+  unfolding map_words
+  map-at m l =
+      get_or-take (k geo) (drop (place geo b (map_word 0)) image) m 0 l
+      ∙ get_or-drop (place geo b (map_word 0)) image m 0
+
+  -- the one with slot i's bit
+  pub free-map-at : (i : ℕ) → i < 32 * k geo → get_or (map_words geo image b) (i / 32) 0 ≡ free_map geo image b i
+  unfolding free_map
+  free-map-at i l = map-at (i / 32) (omega arith) ∙ ap (word image) (omega arith)
+
+  pub entries-at : (i : ℕ) → i < d geo → get_or (entries geo image b) i 0 ≡ entry geo image b i
+  unfolding entries entry
+  entries-at i l =
+      get_or-take (d geo) (drop (place geo b (entry_word geo 0)) image) i 0 l
+      ∙ get_or-drop (place geo b (entry_word geo 0)) image i 0
+      ∙ ap (word image) (omega arith)
 
 -- contents are 128 words, so they are these words where each is
 pub contents-are :

@@ -1,6 +1,9 @@
+pub mod Found
 pub mod Words
 pub mod Slots
 pub mod Blocks
 pub mod WellFormed
 pub mod Faults
 pub mod Mending
+pub mod Views
+pub mod Live

@@ -3,7 +3,7 @@
 use Rattle.std.specs.Prelude.{Bool, List, ◌≡◌, ℕ, ◌%◌, ◌^◌, ◌<◌, length, get_or, take, drop}
 use Rattle.bits.specs.Word.{is_set}
 use Rattle.geometry.specs.declared.Geometry.{Geometry}
-use Rattle.geometry.specs.Geometry.{Limits, image_length, sector_words}
+use Rattle.geometry.specs.Geometry.{Limits, d, k, image_length, sector_words}
 use Rattle.geometry.specs.Places.{place, erase_word, least_word, greatest_word, map_word, entry_word, content_word}
 
 -- an image: its words, in order
@@ -46,6 +46,13 @@ module _ (geo : Geometry) (image : Image) where
   -- the entry of slot i of block b
   unfoldable pub entry : ℕ → ℕ → ℕ
   entry b i = word image (place geo b (entry_word geo i))
+
+  -- the k words of the free map of block b, and its d entries
+  unfoldable pub map_words : ℕ → List ℕ
+  map_words b = take (k geo) (drop (place geo b (map_word 0)) image)
+
+  unfoldable pub entries : ℕ → List ℕ
+  entries b = take (d geo) (drop (place geo b (entry_word geo 0)) image)
 
   -- the 128 words of contents of slot i of block b
   unfoldable pub contents : ℕ → ℕ → List ℕ

@@ -2,7 +2,7 @@
 use mathlib.Core.List.{List}
 use mathlib.Core.Path.{◌≡◌, refl, sym, ◌∙◌}
 use mathlib.Core.Bool.{Bool, true, false, cond, ◌&&◌, or-false}
-use Prim.Native.Nat.{ℕ, ◌/◌, ◌%◌, ◌^◌, ◌<◌}
+use Prim.Native.Nat.{ℕ, ◌%◌, ◌^◌, ◌<◌}
 use native.Mathlib.Omega.{arith}
 use lib.Dec.{eqb, ltb}
 use borrow.Author.Tests.{ne_eqb, ltb-false}
@@ -10,35 +10,13 @@ use Rattle.ranges.specs.Range.{any_below}
 use Rattle.ranges.proofs.Tests.{any-ext}
 use Rattle.geometry.specs.declared.Geometry.{Geometry}
 use Rattle.geometry.specs.Geometry.{d}
-use Rattle.geometry.specs.Places.{place, entry_word}
 use Rattle.image.specs.declared.Slot.TheVariants.{Live, Dead}
-use Rattle.image.specs.Words.{Image, word, entry}
-use Rattle.image.specs.Slots.{is_complete, is_complete_for, has_complete, superseded, is_live_for}
-use Rattle.image.proofs.Entries.{complete-is-6, passing-is-4}
+use Rattle.image.specs.Words.{Image, entry}
+use Rattle.image.specs.Slots.{is_complete, is_complete_for, has_complete, is_live_for}
 use Rattle.rules.specs.Marks.{Marks}
 use Rattle.naming.specs.Completes.{complete_slot, Completes}
 
 module _ (geo : Geometry) (image : Image) where
-  -- a slot's kind by its entry's word at p
-  pub complete-read :
-      (b i p : ℕ) →
-      p ≡ place geo b (entry_word geo i) →
-      word image p < 2 ^ 32 →
-      complete_slot geo image b i
-      ≡ cond (eqb (word image p / 2 ^ 29) 6 && ltb (word image p % 2 ^ 29) geo.logical) (Live (word image p % 2 ^ 29)) Dead
-  unfolding complete_slot entry
-  complete-read b i p e w = rw (← e, complete-is-6 (word image p) w)
-
-  -- and whether it is superseded
-  pub superseded-read :
-      (b i p : ℕ) →
-      p ≡ place geo b (entry_word geo i) →
-      word image p < 2 ^ 32 →
-      superseded geo image b i
-      ≡ (eqb (word image p / 2 ^ 29) 4 && ltb (word image p % 2 ^ 29) geo.logical && has_complete geo image (word image p % 2 ^ 29))
-  unfolding superseded entry
-  superseded-read b i p e w = rw (← e, passing-is-4 (word image p) w)
-
   -- the marks after the last block are those of the complete entries
   complete-for : (b i n : ℕ) → n < geo.logical → is_live_for n (complete_slot geo image b i) ≡ is_complete_for n (entry geo image b i)
   unfolding complete_slot

@@ -1,2 +1,3 @@
 pub mod CompleteLaws
+pub mod BrokenLaws
 pub mod Links

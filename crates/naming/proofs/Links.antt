@@ -1,36 +1,116 @@
 -- What `determined` takes of this crate, to show that there is an environment that has the code of the public functions: the table of the crate's
--- functions; what they call in the crates below, `Below`; and of the functions that are called from above, that a look-up that has both has their
--- code, with the code of all that they call. The toolchain makes all of it, in a module that only this crate can name. Written by tools/links.py.
+-- functions; what those that are told here call in the crates below, `Below`; and of each of them, that a look-up that has both has its code, with the code
+-- of all that it calls. The toolchain makes the tables and the parts, in modules that only this crate can name. Written by tools/links.py.
 -- Assumes nothing.
 use mathlib.Core.Bool.{true}
 use prog.Wired.{Code}
 use prog.Linked.{World, Tree, Holds, in_world}
 use prog.LinkedThreads.{HasT}
 use Rattle.naming.proofs.TheLink as made
+use Rattle.naming.proofs.TheLinks as parts
 
 abbrev pub table : Tree
 table = made.table
 
 abbrev pub Below : World → Type 0
-Below = made.Below
+Below W =
+    HasT (in_world W) true Rattle.image.proofs.Entry.is_passing.Symbol.code ×
+    (HasT (in_world W) true Rattle.image.proofs.Entry.number.Symbol.code ×
+    (HasT (in_world W) true Rattle.image.proofs.view.Block.entries.Symbol.code ×
+    (HasT (in_world W) true Rattle.rules.proofs.NumberSet.is_marked.Symbol.code ×
+    (HasT (in_world W) true Rattle.image.proofs.view.Block.own_slot.Symbol.code ×
+    (HasT (in_world W) true Rattle.geometry.proofs.Geometry.d.Symbol.code ×
+    (HasT (in_world W) true Rattle.ranges.proofs.all.Symbol.code ×
+    (HasT (in_world W) true Rattle.rules.proofs.NumberSet.mark.Symbol.code ×
+    (HasT (in_world W) true Rattle.image.proofs.Entry.is_complete.Symbol.code ×
+    (HasT (in_world W) true Rattle.image.proofs.view.View.block.Symbol.code ×
+    (HasT (in_world W) true Rattle.rules.proofs.rule1.Symbol.code ×
+    (HasT (in_world W) true Rattle.rules.proofs.rule2.Symbol.code ×
+    (HasT (in_world W) true Rattle.rules.proofs.rule3.Symbol.code ×
+    (HasT (in_world W) true Rattle.rules.proofs.rule4.Symbol.code ×
+    (HasT (in_world W) true Rattle.rules.proofs.rule7.Symbol.code ×
+    (HasT (in_world W) true Rattle.rules.proofs.NumberSet.new.Symbol.code ×
+    (Unit {0}))))))))))))))))
 
 abbrev pub Linked : Code → Type 0
 Linked c = (W : World) → Holds W "naming" table → Below W → HasT (in_world W) true c
 
-pub is_superseded : Linked Rattle.naming.proofs.is_superseded.Symbol.code
-is_superseded = made.linked-naming::is_superseded
+Destruct++none-drop : Linked parts.naming-Destruct++none-drop.code
+Destruct++none-drop W h b =
+    parts.naming-Destruct++none-drop.has (in_world W) true (made.found-naming::Destruct++none::drop W h)
 
-pub judged : Linked Rattle.naming.proofs.judged.Symbol.code
-judged = made.linked-naming::judged
+pub judged-JudgedKinds-block : Linked parts.naming-judged-JudgedKinds-block.code
+judged-JudgedKinds-block W h b =
+    parts.naming-judged-JudgedKinds-block.has (in_world W) true (made.found-naming::judged::JudgedKinds::block W h)
 
-pub live_bounded : Linked Rattle.naming.proofs.live_bounded.Symbol.code
-live_bounded = made.linked-naming::live_bounded
+pub judged-Judged-is_superseded : Linked parts.naming-judged-Judged-is_superseded.code
+judged-Judged-is_superseded W h b =
+    parts.naming-judged-Judged-is_superseded.has (in_world W) true (made.found-naming::judged::Judged::is_superseded W h) b.0 b.1.0 b.1.1.0 b.1.1.1.0
 
-pub mark_all_completes : Linked Rattle.naming.proofs.mark_all_completes.Symbol.code
-mark_all_completes = made.linked-naming::mark_all_completes
+pub judged-Judged-slot : Linked parts.naming-judged-Judged-slot.code
+judged-Judged-slot W h b =
+    parts.naming-judged-Judged-slot.has (in_world W) true (made.found-naming::judged::Judged::slot W h) b.1.1.1.1.0 (judged-Judged-is_superseded W h b)
 
-pub rule5 : Linked Rattle.naming.proofs.rule5.Symbol.code
-rule5 = made.linked-naming::rule5
+pub judged-JudgedKinds-live_at : Linked parts.naming-judged-JudgedKinds-live_at.code
+judged-JudgedKinds-live_at W h b =
+    parts.naming-judged-JudgedKinds-live_at.has (in_world W) true (made.found-naming::judged::JudgedKinds::live_at W h) (judged-Judged-slot W h b)
 
-pub first_bad : Linked Rattle.naming.proofs.first_bad.Symbol.code
-first_bad = made.linked-naming::first_bad
+judged-fn-Judged-rule8-all : Linked parts.naming-judged-fn-Judged-rule8-all.code
+judged-fn-Judged-rule8-all W h b =
+    parts.naming-judged-fn-Judged-rule8-all.has (in_world W) true (made.found-naming::judged::fn::Judged::rule8::all W h) (judged-Judged-is_superseded W h b)
+
+judged-fn-Judged-rule8-all+Fn-call : Linked parts.naming-judged-fn-Judged-rule8-all+Fn-call.code
+judged-fn-Judged-rule8-all+Fn-call W h b =
+    parts.naming-judged-fn-Judged-rule8-all+Fn-call.has (in_world W) true (made.found-naming::judged::fn::Judged::rule8::all+Fn::call W h) (judged-fn-Judged-rule8-all W h b)
+
+judged-fn-Judged-rule8-all+FnMut-call_mut : Linked parts.naming-judged-fn-Judged-rule8-all+FnMut-call_mut.code
+judged-fn-Judged-rule8-all+FnMut-call_mut W h b =
+    parts.naming-judged-fn-Judged-rule8-all+FnMut-call_mut.has (in_world W) true (made.found-naming::judged::fn::Judged::rule8::all+FnMut::call_mut W h) (judged-fn-Judged-rule8-all W h b)
+
+judged-fn-Judged-rule8-all+FnOnce-call_once : Linked parts.naming-judged-fn-Judged-rule8-all+FnOnce-call_once.code
+judged-fn-Judged-rule8-all+FnOnce-call_once W h b =
+    parts.naming-judged-fn-Judged-rule8-all+FnOnce-call_once.has (in_world W) true (made.found-naming::judged::fn::Judged::rule8::all+FnOnce::call_once W h) (judged-fn-Judged-rule8-all W h b)
+
+judged-Judged-rule8 : Linked parts.naming-judged-Judged-rule8.code
+judged-Judged-rule8 W h b =
+    parts.naming-judged-Judged-rule8.has (in_world W) true (made.found-naming::judged::Judged::rule8 W h) b.1.1.1.1.1.0 (Destruct++none-drop W h b) (judged-fn-Judged-rule8-all+Fn-call W h b) (judged-fn-Judged-rule8-all+FnMut-call_mut W h b) (judged-fn-Judged-rule8-all+FnOnce-call_once W h b) b.1.1.1.1.1.1.0
+
+judged-fn-JudgedKinds-live_between-all : Linked parts.naming-judged-fn-JudgedKinds-live_between-all.code
+judged-fn-JudgedKinds-live_between-all W h b =
+    parts.naming-judged-fn-JudgedKinds-live_between-all.has (in_world W) true (made.found-naming::judged::fn::JudgedKinds::live_between::all W h) (judged-Judged-slot W h b)
+
+judged-fn-JudgedKinds-live_between-all+Fn-call : Linked parts.naming-judged-fn-JudgedKinds-live_between-all+Fn-call.code
+judged-fn-JudgedKinds-live_between-all+Fn-call W h b =
+    parts.naming-judged-fn-JudgedKinds-live_between-all+Fn-call.has (in_world W) true (made.found-naming::judged::fn::JudgedKinds::live_between::all+Fn::call W h) (judged-fn-JudgedKinds-live_between-all W h b)
+
+judged-fn-JudgedKinds-live_between-all+FnMut-call_mut : Linked parts.naming-judged-fn-JudgedKinds-live_between-all+FnMut-call_mut.code
+judged-fn-JudgedKinds-live_between-all+FnMut-call_mut W h b =
+    parts.naming-judged-fn-JudgedKinds-live_between-all+FnMut-call_mut.has (in_world W) true (made.found-naming::judged::fn::JudgedKinds::live_between::all+FnMut::call_mut W h) (judged-fn-JudgedKinds-live_between-all W h b)
+
+judged-fn-JudgedKinds-live_between-all+FnOnce-call_once : Linked parts.naming-judged-fn-JudgedKinds-live_between-all+FnOnce-call_once.code
+judged-fn-JudgedKinds-live_between-all+FnOnce-call_once W h b =
+    parts.naming-judged-fn-JudgedKinds-live_between-all+FnOnce-call_once.has (in_world W) true (made.found-naming::judged::fn::JudgedKinds::live_between::all+FnOnce::call_once W h) (judged-fn-JudgedKinds-live_between-all W h b)
+
+pub judged-JudgedKinds-live_between : Linked parts.naming-judged-JudgedKinds-live_between.code
+judged-JudgedKinds-live_between W h b =
+    parts.naming-judged-JudgedKinds-live_between.has (in_world W) true (made.found-naming::judged::JudgedKinds::live_between W h) b.1.1.1.1.1.0 (Destruct++none-drop W h b) (judged-fn-JudgedKinds-live_between-all+Fn-call W h b) (judged-fn-JudgedKinds-live_between-all+FnMut-call_mut W h b) (judged-fn-JudgedKinds-live_between-all+FnOnce-call_once W h b) b.1.1.1.1.1.1.0
+
+pub judged-Judged-rule5 : Linked parts.naming-judged-Judged-rule5.code
+judged-Judged-rule5 W h b =
+    parts.naming-judged-Judged-rule5.has (in_world W) true (made.found-naming::judged::Judged::rule5 W h) b.1.1.1.1.1.0 (judged-Judged-slot W h b) b.1.1.1.1.1.1.1.0
+
+mark_completes : Linked parts.naming-mark_completes.code
+mark_completes W h b =
+    parts.naming-mark_completes.has (in_world W) true (made.found-naming::mark_completes W h) b.1.1.1.1.1.1.1.1.0 b.1.0 b.1.1.0 b.1.1.1.1.1.1.1.0
+
+pub mark_all_completes : Linked parts.naming-mark_all_completes.code
+mark_all_completes W h b =
+    parts.naming-mark_all_completes.has (in_world W) true (made.found-naming::mark_all_completes W h) b.1.1.1.1.1.1.1.1.1.0 (mark_completes W h b)
+
+broken_rule : Linked parts.naming-broken_rule.code
+broken_rule W h b =
+    parts.naming-broken_rule.has (in_world W) true (made.found-naming::broken_rule W h) (judged-Judged-rule5 W h b) (judged-Judged-rule8 W h b) (judged-JudgedKinds-block W h b) (judged-JudgedKinds-live_at W h b) (judged-JudgedKinds-live_between W h b) b.1.1.1.1.1.1.1.1.1.1.0 b.1.1.1.1.1.1.1.1.1.1.1.0 b.1.1.1.1.1.1.1.1.1.1.1.1.0 b.1.1.1.1.1.1.1.1.1.1.1.1.1.0 b.1.1.1.1.1.1.1.1.1.1.1.1.1.1.0
+
+pub first_bad : Linked parts.naming-first_bad.code
+first_bad W h b =
+    parts.naming-first_bad.has (in_world W) true (made.found-naming::first_bad W h) b.1.1.1.1.1.1.1.1.1.0 (broken_rule W h b) (mark_all_completes W h b) b.1.1.1.1.1.1.1.1.1.1.1.1.1.1.1.0

@@ -1,19 +1,28 @@
 -- The first and the last index at which a test passes, when it passes at one index more; and of the numbers live in the slots that a loop has
 -- passed. Assumes nothing.
 use mathlib.Core.Path.{◌≡◌, refl, sym, ap, ap₂, ◌∙◌}
-use mathlib.Core.Bool.{Bool, true, false, ◌||◌, or-true, or-false}
-use Prim.Native.Nat.{ℕ, ◌+◌, ◌<◌, min, max}
+use mathlib.Core.Bool.{Bool, true, false, ◌||◌, or-true, or-false, true≢false}
+use Prim.Native.Nat.{ℕ, ◌+◌, ◌<◌, ◌≤◌, min, max}
 use native.Mathlib.Decide.{dec_lt}
 use native.Mathlib.Omega.{arith}
 use native.Mathlib.Numerals.{add-one}
-use borrow.Author.Tests.{eq-eqb, ne_eqb}
+use borrow.Author.Tests.{eq-eqb, ne_eqb, lt-ltb, le-ltb}
+use Rattle.std.specs.Prelude.{Option, Some, None, is_some, unwrap_or}
 use Rattle.ranges.specs.Range.{or_at, any_below, first_below, last_below}
 use Rattle.ranges.proofs.Searches.{best-passes, best-some, best_none, best-ext, first-before, first-is, last-after, last-is}
+use Rattle.ranges.proofs.Tests.{any-ext}
+use Rattle.geometry.specs.declared.Geometry.{Geometry}
+use Rattle.geometry.specs.Geometry.{d}
 use Rattle.image.specs.declared.Slot.{Slot}
-use Rattle.image.specs.declared.Slot.TheVariants.{Live}
-use Rattle.image.specs.Slots.{is_live_for}
+use Rattle.image.specs.declared.Slot.TheVariants.{Free, Live, Dead, Faulty, Superseded}
+use Rattle.image.specs.Live.{live_number}
+use Rattle.image.specs.Words.{Image}
+use Rattle.image.specs.Slots.{own_slot, is_live_for}
+use Rattle.image.specs.WellFormed.{NoneSuperseded}
+use Rattle.image.proofs.Own.{each-own}
 use Rattle.flash.specs.declared.LiveBounds.{LiveBounds}
-use Rattle.placing.specs.Bounds.{bounds_of}
+use Rattle.flash.specs.Placing.{least_live, greatest_live, live_bounds}
+use Rattle.placing.specs.Bounds.{bounds_of, bounds_below, live_among, bounds_among}
 
 module _ (m : ℕ) (f : ℕ → Bool) {n : ℕ} (l : n < m) where
   -- it passes at n, and where the test does
@@ -64,17 +73,68 @@ pub bounds-ext : (m : ℕ) {f g : ℕ → Bool} → ((n : ℕ) → n < m → f n
 bounds-ext m same =
     ap₂ (λ (x y : ℕ). record { least = x; greatest = y }) (best-ext m same (λ i r l k. refl)) (best-ext m same (λ i r l k. refl))
 
--- n is live in one of the first i slots
-abbrev pub live_among : (ℕ → Slot) → ℕ → ℕ → Bool
-live_among slots i n = any_below i (λ j. is_live_for n (slots j))
+-- where the first is m, it passes at none
+first_none : (m : ℕ) (f : ℕ → Bool) → m ≤ first_below m f → (i : ℕ) → i < m → f i ≡ false
+first_none m f e i l = first-before m f (omega arith)
+
+-- ---- bounds, if some number passes
+
+module _ (m : ℕ) (bounds : LiveBounds) where
+  pub bounds-found : {x : LiveBounds} → x ≡ bounds → bounds.least < m → Some x ≡ bounds_below m bounds
+  bounds-found e l = rw (e, lt-ltb bounds.least m l)
+
+  pub bounds-missing : m ≤ bounds.least → None ≡ bounds_below m bounds
+  bounds-missing l = rw (le-ltb bounds.least m l)
+
+  -- and back: what an answer says of them
+  pub bounds-some : {x : LiveBounds} → Some x ≡ bounds_below m bounds → (x ≡ bounds) × (bounds.least < m)
+  bounds-some {x} e = go (dec_lt bounds.least m)
+    where
+      value : Option LiveBounds → LiveBounds
+      value (Some b) = b
+      value None = bounds
+
+      go : Dec (bounds.least < m) → (x ≡ bounds) × (bounds.least < m)
+      go (yes l) = (ap value (rw (lt-ltb bounds.least m l) at e), l)
+      go (no l) = absurd (true≢false (ap is_some (rw (le-ltb bounds.least m (omega arith)) at e)))
+
+  pub bounds-none : None ≡ bounds_below m bounds → m ≤ bounds.least
+  bounds-none e = go (dec_lt bounds.least m)
+    where
+      go : Dec (bounds.least < m) → m ≤ bounds.least
+      go (yes l) = absurd (true≢false (sym (ap is_some (rw (lt-ltb bounds.least m l) at e))))
+      go (no l) = omega arith
+
+-- with m for both where none does, they are the bounds again
+pub bounds-or : (m : ℕ) (f : ℕ → Bool) {live : Option LiveBounds} → live ≡ bounds_below m (bounds_of m f) → unwrap_or live (record { least = m; greatest = m }) ≡ bounds_of m f
+bounds-or m f {live = Some x} e = (bounds-some m (bounds_of m f) e).0
+bounds-or m f {live = None} e =
+    let none = first_none m f (bounds-none m (bounds_of m f) e) in
+    ap₂ (λ (x y : ℕ). record { least = x; greatest = y }) (sym (best_none _ m f none)) (sym (best_none _ m f none))
+
+-- ---- of the numbers live in the slots that a loop has passed
+
+-- where a slot has a live number, it is live for that one; where it has none, for no number
+pub live-is : (s : Slot) {n : ℕ} → Some n ≡ live_number s → s ≡ Live n
+live-is Free e = absurd (true≢false (ap is_some e))
+live-is (Live m) {n} e = ap Live (ap (λ o. unwrap_or o m) (sym e))
+live-is Dead e = absurd (true≢false (ap is_some e))
+live-is Faulty e = absurd (true≢false (ap is_some e))
+live-is Superseded e = absurd (true≢false (ap is_some e))
+
+pub live-not : (s : Slot) → ((n : ℕ) → Some n ≡ live_number s → ⊥) → (n : ℕ) → is_live_for n s ≡ false
+live-not Free e n = refl
+live-not (Live m) e n = absurd (e m refl)
+live-not Dead e n = refl
+live-not Faulty e n = refl
+live-not Superseded e n = refl
 
 -- before the first slot
-pub none-live : (m : ℕ) (slots : ℕ → Slot) → record { least = m; greatest = m } ≡ bounds_of m (live_among slots 0)
+pub none-live : (m : ℕ) (slots : ℕ → Slot) → None ≡ bounds_below m (bounds_of m (live_among slots 0))
 unfolding any_below
-none-live m slots =
-    ap₂ (λ (x y : ℕ). record { least = x; greatest = y }) (sym (best_none _ m _ (λ i l. refl))) (sym (best_none _ m _ (λ i l. refl)))
+none-live m slots = bounds-missing m (bounds_of m (live_among slots 0)) (omega (arith, best_none (λ i r. false) m (live_among slots 0) (λ i l. refl)))
 
-module _ (m : ℕ) (slots : ℕ → Slot) (i : ℕ) {live : LiveBounds} (before : live ≡ bounds_of m (live_among slots i)) where
+module _ (m : ℕ) (slots : ℕ → Slot) (i : ℕ) {live : Option LiveBounds} (before : live ≡ bounds_below m (bounds_of m (live_among slots i))) where
   -- the slots passed and this one
   one_more : (n : ℕ) → live_among slots (i + 1) n ≡ (live_among slots i n || is_live_for n (slots i))
   unfolding any_below
@@ -83,10 +143,27 @@ module _ (m : ℕ) (slots : ℕ → Slot) (i : ℕ) {live : LiveBounds} (before 
   -- one slot more that is live
   pub with-live :
       {n : ℕ} {wider : LiveBounds} →
-      slots i ≡ Live n → ((f : ℕ → Bool) → live ≡ bounds_of m f → wider ≡ bounds_of m (or_at f n)) → wider ≡ bounds_of m (live_among slots (i + 1))
-  with-live e widens =
-      widens (live_among slots i) before ∙ bounds-ext m (λ x l. sym (one_more x ∙ ap (λ (s : Slot). live_among slots i x || is_live_for x s) e))
+      slots i ≡ Live n →
+      n < m →
+      ((m : ℕ) (f : ℕ → Bool) → n < m → live ≡ bounds_below m (bounds_of m f) → wider ≡ bounds_of m (or_at f n)) →
+      Some wider ≡ bounds_below m (bounds_of m (live_among slots (i + 1)))
+  with-live {n} e l widens =
+      let all = bounds-ext m (λ x l. sym (one_more x ∙ ap (λ (s : Slot). live_among slots i x || is_live_for x s) e)) in
+      bounds-found m (bounds_of m (live_among slots (i + 1))) (widens m (live_among slots i) l before ∙ all)
+      (omega (arith, ap (λ (b : LiveBounds). b.least) all, first_more m (live_among slots i) l))
 
   -- one slot more that is not
-  pub without : {s : Slot} → slots i ≡ s → ((n : ℕ) → is_live_for n s ≡ false) → live ≡ bounds_of m (live_among slots (i + 1))
-  without e none = before ∙ bounds-ext m (λ x l. sym (one_more x ∙ rw (e, none x) (or-false (live_among slots i x))))
+  pub without : {s : Slot} → slots i ≡ s → ((n : ℕ) → is_live_for n s ≡ false) → live ≡ bounds_below m (bounds_of m (live_among slots (i + 1)))
+  without e none = before ∙ ap (bounds_below m) (bounds-ext m (λ x l. sym (one_more x ∙ rw (e, none x) (or-false (live_among slots i x)))))
+
+-- ---- of a block
+
+-- where no slot is superseded, by the slots' own entries
+pub own-bounds :
+    (geo : Geometry) (image : Image) (b : ℕ) →
+    NoneSuperseded geo image →
+    b < geo.blocks →
+    bounds_among geo (own_slot geo image b) ≡ bounds_below geo.logical (live_bounds geo image b)
+unfolding least_live greatest_live
+own-bounds geo image b none l =
+    ap (bounds_below geo.logical) (bounds-ext geo.logical (λ n k. any-ext (d geo) (λ i h. ap (is_live_for n) (sym (each-own none l h)))))

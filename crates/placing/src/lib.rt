@@ -1,251 +1,191 @@
 #![tactic(auto)]
 
-// Placing a sector in a slot, (a) to (g), and releasing one: as many of the steps as are left of those that a call may do (K4). A function
-// that changes the image returns how many are left then; a whole call has more than any needs.
-ghost use Rattle.std.specs.Prelude.{Bool, true, ◌≡◌, ℕ, ◌-◌, ◌<◌, length};
+// Placing a sector in a slot, (a) to (g), and releasing one: as many of the steps as are left of those that a call may do (K4); a whole call has
+// more than any needs.
+ghost use Rattle.std.specs.Prelude.{Bool, true, ◌≡◌, ℕ, ◌<◌};
 ghost use Rattle.ranges.specs.Range.{or_at};
-ghost use Rattle.geometry.specs.Geometry.{d, sector_words};
-ghost use Rattle.image.specs.declared.Found.TheVariants.{At};
+ghost use Rattle.geometry.specs.Geometry.{d};
+ghost use Rattle.image.specs.Found.{At};
 ghost use Rattle.image.specs.declared.Slot.TheVariants.{Free};
-ghost use Rattle.image.specs.Words.{Shaped};
 ghost use Rattle.image.specs.Slots.{slot, find};
+ghost use Rattle.image.specs.Views.{of_image, of_block};
 ghost use Rattle.image.specs.WellFormed.{R2, sound, NoneSuperseded};
 ghost use Rattle.tables.specs.Tables.{noted};
-ghost use Rattle.flash.specs.Steps.{run, first_of};
+ghost use Rattle.flash.specs.Runs.{Does, of_run};
 ghost use Rattle.flash.specs.Ahead.{bounds_with};
-ghost use Rattle.flash.specs.Placing.{InImage, entry_at, programs_entry, takes_slot, stores_contents, live_bounds, closes_block, placing, invalidates};
-ghost use Rattle.placing.specs.Bounds.{bounds_of};
+ghost use Rattle.flash.specs.Placing.{InImage, entry_at, programs_entry, takes_slot, stores_contents, closes_block, placing, invalidates};
+ghost use Rattle.placing.specs.Bounds.{bounds_of, bounds_below, bounds_among};
 
-use blocks::lowest_free;
-use flash::LiveBounds;
-use flash::steps::{program, program_within};
-use geometry::Geometry;
-use image::slots::slot_of;
-use image::{Found, Slot};
+use blocks::is_full;
+use flash::run::Run;
+use flash::steps::program;
+use flash::{LiveBounds, Sector};
+use image::kinds::Kinds;
+use image::view::{Block, View};
+use image::{Entry, Location};
 use tables::{look_up, note, word_at};
 
 // (a): the map word with the slot's bit cleared.
-fn take_slot(image: &mut [u32], geo: Geometry, b: usize, i: usize, left: u32) -> u32
-    requires shaped { Shaped geo image.old }
-    requires b_lt_blocks { b < geo.blocks }
-    requires i_bound { i < d geo }
-    ensures value { result ≡ left - length (takes_slot geo image.old b i) }
-    ensures image_after { image.new ≡ run geo image.old (first_of left (takes_slot geo image.old b i)) }
+fn take_slot(run: &mut Run, b: usize, i: usize)
+    requires b_lt_blocks { b < run.old.geo.blocks }
+    requires i_bound { i < d run.old.geo }
+    ensures { Does run.old run.new (of_run takes_slot run.old b i) }
 {
-    let at = geo.map_start(b) + i / 32;
-    let word = image[at];
-    program_within(image, at, bits::clear_bit(word, (i % 32) as u32), left)
+    let at = run.geo.map_start(b) + i / 32;
+    let word = run.words[at];
+    run.program(at, bits::clear_bit(word, (i % 32) as u32));
 }
 
 // The entry at a place where a number was found; 0 where it was not.
-pub fn entry_at(image: &[u32], geo: Geometry, found: Found) -> u32
-    requires shaped { Shaped geo image.now }
-    requires in_image { InImage geo found }
-    ensures { result ≡ entry_at geo image.now found }
+pub fn entry_at(image: &View, found: Option<Location>) -> u32
+    requires { InImage image.now.geo found }
+    ensures { result ≡ of_image entry_at image.now found }
 {
     match found {
-        Found::At(b, i) => {
-            let at = geo.entries_start(b) + i;
-            image[at]
-        }
-        Found::Nothing => 0,
+        Some((b, i)) => image.block(b).entries()[i],
+        None => 0,
     }
 }
 
 // (b), (f) and a release: that entry programmed, where there is one.
-fn program_entry(image: &mut [u32], geo: Geometry, found: Found, asked: u32, left: u32) -> u32
-    requires shaped { Shaped geo image.old }
-    requires in_image { InImage geo found }
-    ensures value { result ≡ left - length (programs_entry geo found asked) }
-    ensures image_after { image.new ≡ run geo image.old (first_of left (programs_entry geo found asked)) }
+fn program_entry(run: &mut Run, found: Option<Location>, asked: u32)
+    requires { InImage run.old.geo found }
+    ensures { Does run.old run.new (programs_entry run.old.geo found asked) }
 {
-    match found {
-        Found::At(b, i) => {
-            let at = geo.entries_start(b) + i;
-            program_within(image, at, asked, left)
-        }
-        Found::Nothing => left,
+    if let Some((b, i)) = found {
+        let at = run.geo.entries_start(b) + i;
+        run.program(at, asked);
     }
 }
 
-// (c): the contents, from the first word on.
-fn store_contents(
-    image: &mut [u32],
-    geo: Geometry,
-    b: usize,
-    i: usize,
-    words: &[u32],
-    left: u32,
-) -> u32
-    requires shaped { Shaped geo image.old }
-    requires b_lt_blocks { b < geo.blocks }
-    requires i_bound { i < d geo }
-    requires words_len { length words.now ≡ sector_words }
-    ensures value { result ≡ left - length (stores_contents geo b i words.now) }
-    ensures image_after { image.new ≡ run geo image.old (first_of left (stores_contents geo b i words.now)) }
+// (c): the contents, from the first word on. The words are programmed in the slice, and taken off those that are left once: a test of each would
+// cost the loop more than the words do.
+fn store_contents(run: &mut Run, b: usize, i: usize, sector: &Sector)
+    requires b_lt_blocks { b < run.old.geo.blocks }
+    requires i_bound { i < d run.old.geo }
+    ensures { Does run.old run.new (stores_contents run.old.geo b i sector.now.words.now) }
 {
-    let at = geo.contents_start(b, i);
-    let mut stored = 128u32;
-    if left < 128 {
-        stored = left;
+    let at = run.geo.contents_start(b, i);
+    let stored = bits::lesser(run.left, 128);
+    let words = &mut *run.words;
+    for (j, &word) in sector.words[..stored as usize].iter().enumerate() {
+        program(words, at + j, word);
     }
-    for j in 0..stored as usize {
-        program(image, at + j, words[j]);
-    }
-    left - stored
+    run.left -= stored;
 }
 
-// The bounds of some numbers and of one more. With `logical` as the least there are none yet.
-pub fn widened(live: LiveBounds, logical: u32, n: u32) -> LiveBounds
-    requires { n < logical }
-    ensures { (f : ℕ → Bool) → live ≡ bounds_of logical f → result ≡ bounds_of logical (or_at f n) }
+// The bounds of some numbers and of one more.
+pub fn widened(live: Option<LiveBounds>, n: u32) -> LiveBounds
+    ensures { (m : ℕ) (f : ℕ → Bool) → n < m → live ≡ bounds_below m (bounds_of m f) → result ≡ bounds_of m (or_at f n) }
 {
-    if live.least == logical {
-        return LiveBounds {
+    match live {
+        Some(live) => LiveBounds {
+            least: bits::lesser(n, live.least),
+            greatest: bits::greater(n, live.greatest),
+        },
+        None => LiveBounds {
             least: n,
             greatest: n,
-        };
+        },
     }
-    let mut least = n;
-    if live.least < n {
-        least = live.least;
-    }
-    let mut greatest = n;
-    if n < live.greatest {
-        greatest = live.greatest;
-    }
-    LiveBounds { least, greatest }
 }
 
-// The least and the greatest number live in block b. Whether an entry is live, the map bit does not say.
-pub fn live_bounds(image: &[u32], geo: Geometry, b: usize) -> LiveBounds
-    requires shaped { Shaped geo image.now }
-    requires none_superseded { NoneSuperseded geo image.now }
-    requires b_lt_blocks { b < geo.blocks }
-    ensures { result ≡ live_bounds geo image.now b }
+// The least and the greatest number live in a block, if any is.
+pub fn live_bounds<K: Kinds>(kinds: &K) -> Option<LiveBounds>
+    ensures { result ≡ bounds_among (K.block_of kinds.now).image.geo (K.kind kinds.now (K.block_of kinds.now).index) }
 {
-    let d = geo.d();
-    let logical = geo.logical;
-    let entries = geo.entries_start(b);
-    let mut live = LiveBounds {
-        least: logical,
-        greatest: logical,
-    };
+    let d = kinds.block().image.geo.d();
+    let mut live = None;
     for i in 0..d {
-        match slot_of(logical, false, image[entries + i]) {
-            Slot::Live(n) => {
-                live = widened(live, logical, n);
-            }
-            Slot::Free => {}
-            Slot::Dead => {}
-            Slot::Faulty => {}
-            Slot::Superseded => {}
+        if let Some(n) = kinds.live_at(i) {
+            live = Some(widened(live, n));
         }
     }
     live
 }
 
-// The same with n as one of the numbers.
-pub fn bounds_with(image: &[u32], geo: Geometry, b: usize, n: u32) -> LiveBounds
-    requires shaped { Shaped geo image.now }
-    requires none_superseded { NoneSuperseded geo image.now }
-    requires b_lt_blocks { b < geo.blocks }
-    requires n_lt_logical { n < geo.logical }
-    ensures { result ≡ bounds_with geo image.now b n }
+// The same with n as one of the numbers. Whether an entry is live, its own kind says where none is superseded.
+pub fn bounds_with(block: &Block, n: u32) -> LiveBounds
+    requires none_superseded { of_image NoneSuperseded block.now.image }
+    requires n_lt_logical { n < block.now.image.geo.logical }
+    ensures { result ≡ of_block bounds_with block.now n }
 {
-    widened(live_bounds(image, geo, b), geo.logical, n)
+    widened(live_bounds(block), n)
+}
+
+// Bounds as (g) programs them: where no number is live, L for both.
+pub fn or_logical(live: Option<LiveBounds>, logical: u32) -> LiveBounds
+    ensures { (f : ℕ → Bool) → live ≡ bounds_below logical (bounds_of logical f) → result ≡ bounds_of logical f }
+{
+    match live {
+        Some(live) => live,
+        None => LiveBounds {
+            least: logical,
+            greatest: logical,
+        },
+    }
 }
 
 // (g): words 1 and 2, if the block has no free slot left.
-fn close_block(image: &mut [u32], geo: Geometry, b: usize, left: u32) -> u32
-    requires shaped { Shaped geo image.old }
-    requires none_superseded { NoneSuperseded geo image.old }
-    requires b_lt_blocks { b < geo.blocks }
-    requires b_value { R2 geo image.old b ≡ true }
-    ensures value { result ≡ left - length (closes_block geo image.old b) }
-    ensures image_after { image.new ≡ run geo image.old (first_of left (closes_block geo image.old b)) }
+fn close_block(run: &mut Run, b: usize)
+    requires none_superseded { of_run NoneSuperseded run.old }
+    requires b_lt_blocks { b < run.old.geo.blocks }
+    requires b_value { of_run R2 run.old b ≡ true }
+    ensures { Does run.old run.new (of_run closes_block run.old b) }
 {
-    let start = geo.start(b);
-    if lowest_free(image, geo, b) != geo.d() {
-        return left;
+    let block = run.view().block(b);
+    if is_full(&block) {
+        let live = or_logical(live_bounds(&block), run.geo.logical);
+        let start = run.geo.start(b);
+        run.program(start + 1, live.least);
+        run.program(start + 2, live.greatest);
     }
-    let live = live_bounds(image, geo, b);
-    let left_then = program_within(image, start + 1, live.least, left);
-    program_within(image, start + 2, live.greatest, left_then)
 }
 
-// Places n, with these contents, in slot i of block b, where it was found before at old: (a) to (g). What (g) looks at is there only when all
-// before it was done.
-pub fn place_over(
-    image: &mut [u32],
-    geo: Geometry,
-    n: u32,
-    words: &[u32],
-    b: usize,
-    i: usize,
-    old: Found,
-    most: u32,
-) -> u32
-    requires shaped { Shaped geo image.old }
-    requires image_value { sound geo image.old ≡ true }
-    requires n_lt_logical { n < geo.logical }
-    requires words_len { length words.now ≡ sector_words }
-    requires b_lt_blocks { b < geo.blocks }
-    requires i_bound { i < d geo }
-    requires i_value { slot geo image.old b i ≡ Free }
-    requires value { old ≡ find geo image.old n }
-    ensures value_2 { result ≡ most - length (placing geo image.old n words.now b i) }
-    ensures image_after { image.new ≡ run geo image.old (first_of most (placing geo image.old n words.now b i)) }
+// Places a sector in slot i of block b, where its number was found before at old: (a) to (g). What (g) looks at is there only when all before it
+// was done.
+pub fn place_over(run: &mut Run, sector: &Sector, b: usize, i: usize, old: Option<Location>)
+    requires image_value { of_run sound run.old ≡ true }
+    requires number_lt_logical { sector.now.number < run.old.geo.logical }
+    requires b_lt_blocks { b < run.old.geo.blocks }
+    requires i_bound { i < d run.old.geo }
+    requires i_value { of_run slot run.old b i ≡ Free }
+    requires value { old ≡ of_run find run.old sector.now.number }
+    ensures { Does run.old run.new (of_run placing run.old sector.now.number sector.now.words.now b i) }
 {
-    let entry = geo.entries_start(b) + i;
-    let outdated = bits::clear_bit(entry_at(image, geo, old), 30);
-    let left_a = take_slot(image, geo, b, i, most);
-    let left_b = program_entry(image, geo, old, outdated, left_a);
-    let left_c = store_contents(image, geo, b, i, words, left_b);
-    let left_d = program_within(image, entry, 0xE000_0000 + n, left_c);
-    let left_e = program_within(image, entry, 0xC000_0000 + n, left_d);
-    let left_f = program_entry(image, geo, old, bits::clear_bit(outdated, 31), left_e);
-    if left_f == 0 {
-        return 0;
+    let entry = run.geo.entries_start(b) + i;
+    let outdated = bits::clear_bit(entry_at(&run.view(), old), 30);
+    take_slot(run, b, i);
+    program_entry(run, old, outdated);
+    store_contents(run, b, i, sector);
+    run.program(entry, Entry::begun(sector.number).0);
+    run.program(entry, Entry::complete(sector.number).0);
+    program_entry(run, old, bits::clear_bit(outdated, 31));
+    if run.left > 0 {
+        close_block(run, b);
     }
-    close_block(image, geo, b, left_f)
 }
 
-// Places n, wherever it was before: it is looked up first, and noted where it is now, as if every step were done.
-pub fn place(
-    image: &mut [u32],
-    geo: Geometry,
-    n: u32,
-    words: &[u32],
-    b: usize,
-    i: usize,
-    table: &mut [u16],
-    most: u32,
-) -> u32
-    requires shaped { Shaped geo image.old }
-    requires image_value { sound geo image.old ≡ true }
-    requires n_lt_logical { n < geo.logical }
-    requires words_len { length words.now ≡ sector_words }
-    requires b_lt_blocks { b < geo.blocks }
-    requires i_bound { i < d geo }
-    requires i_value { slot geo image.old b i ≡ Free }
-    ensures value { result ≡ most - length (placing geo image.old n words.now b i) }
-    ensures image_after { image.new ≡ run geo image.old (first_of most (placing geo image.old n words.now b i)) }
-    ensures table_after { table.new ≡ noted geo table.old n (At b i) }
+// Places a sector, wherever its number was before: that is looked up first, and noted where it is now, as if every step were done.
+pub fn place(run: &mut Run, sector: &Sector, b: usize, i: usize, table: &mut [u16])
+    requires image_value { of_run sound run.old ≡ true }
+    requires number_lt_logical { sector.now.number < run.old.geo.logical }
+    requires b_lt_blocks { b < run.old.geo.blocks }
+    requires i_bound { i < d run.old.geo }
+    requires i_value { of_run slot run.old b i ≡ Free }
+    ensures run_after { Does run.old run.new (of_run placing run.old sector.now.number sector.now.words.now b i) }
+    ensures table_after { table.new ≡ noted run.old.geo table.old sector.now.number (At b i) }
 {
-    let old = look_up(image, geo, n, table);
-    let left = place_over(image, geo, n, words, b, i, old, most);
-    note(table, n, word_at(geo, b, i));
-    left
+    let old = look_up(&run.view(), sector.number, table);
+    place_over(run, sector, b, i, old);
+    note(table, sector.number, word_at(run.geo, b, i));
 }
 
 // Releases what was found: its live entry with bit 31 cleared.
-pub fn release(image: &mut [u32], geo: Geometry, live: Found, most: u32) -> u32
-    requires shaped { Shaped geo image.old }
-    requires in_image { InImage geo live }
-    ensures value { result ≡ most - length (invalidates geo image.old live) }
-    ensures image_after { image.new ≡ run geo image.old (first_of most (invalidates geo image.old live)) }
+pub fn release(run: &mut Run, live: Option<Location>)
+    requires { InImage run.old.geo live }
+    ensures { Does run.old run.new (of_run invalidates run.old live) }
 {
-    let invalid = bits::clear_bit(entry_at(image, geo, live), 31);
-    program_entry(image, geo, live, invalid, most)
+    let invalid = bits::clear_bit(entry_at(&run.view(), live), 31);
+    program_entry(run, live, invalid);
 }

@@ -1,5 +1,5 @@
 -- What an accepted call with a lookup table (K2) says: the call without one is accepted as well. Assumes nothing.
-use mathlib.Core.Path.{◌≡◌, refl, sym, ◌∙◌}
+use mathlib.Core.Path.{◌≡◌, sym, ◌∙◌}
 use mathlib.Core.Bool.{true}
 use mathlib.Core.List.{List}
 use Prim.Native.Nat.{ℕ, ◌<◌}
@@ -10,7 +10,7 @@ use Rattle.ranges.proofs.Tests.{both-pass}
 use Rattle.geometry.specs.declared.Geometry.{Geometry}
 use Rattle.image.specs.Words.{Image}
 use Rattle.tables.specs.Tables.{Table}
-use Rattle.answers.specs.declared.Answer.TheVariants.{Accepted}
+use Rattle.answers.specs.Answers.{Accepted}
 use Rattle.calls.specs.Refusals.{one_sector, write_answer, release_answer}
 use Rattle.calls.proofs.Rows.{NoneApplies, none-applies}
 use Rattle.tabled.specs.Refusals.{word_for_each, write_rows_with, release_rows_with, write_answer_with, release_answer_with}
@@ -20,7 +20,7 @@ module _ (geo : Geometry) (image : Image) (n : ℕ) (buffer : List ℕ) (table :
   write-fits : word_for_each geo table ≡ true
   unfolding write_answer_with
   write-fits =
-      let rows : NoneApplies (write_rows_with geo image n buffer table) = none-applies (write_rows_with geo image n buffer table) yes-wrote refl in
+      let rows : NoneApplies (write_rows_with geo image n buffer table) = none-applies (write_rows_with geo image n buffer table) yes-wrote in
       (both-pass (word_for_each geo table) (one_sector buffer) (not-false _ rows.1.0)).0
 
   pub write-too : write_answer geo image n buffer ≡ Accepted
@@ -33,7 +33,7 @@ module _ (geo : Geometry) (image : Image) (n : ℕ) (buffer : List ℕ) (table :
 module _ (geo : Geometry) (image : Image) (n : ℕ) (table : Table) (yes-freed : release_answer_with geo image n table ≡ Accepted) where
   release-with-rows : NoneApplies (release_rows_with geo image n table)
   unfolding release_answer_with
-  release-with-rows = none-applies (release_rows_with geo image n table) yes-freed refl
+  release-with-rows = none-applies (release_rows_with geo image n table) yes-freed
 
   pub release-too : release_answer geo image n ≡ Accepted
   release-too = sym (release-alike geo image table (not-false _ release-with-rows.1.0) n) ∙ yes-freed

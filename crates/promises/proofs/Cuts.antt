@@ -35,7 +35,7 @@ use Rattle.repairing.proofs.Mended.{counted-settling}
 use Rattle.repairing.proofs.Emptied.{RepairCut, repair-cut, repair-ends, cut-mends}
 use Rattle.repairing.proofs.Costs.{repair-erasures, repair-words, repair-most}
 use Rattle.repairing.proofs.Within.{Roomy, not-refused, cut-roomy}
-use Rattle.answers.specs.declared.Answer.TheVariants.{Accepted}
+use Rattle.answers.specs.Answers.{Accepted}
 use Rattle.answers.proofs.Acceptance.{accepted?, if-accepted, if-refused}
 use Rattle.calls.specs.Refusals.{check_answer, write_answer, release_answer, repair_answer}
 use Rattle.calls.specs.Calls.{write_steps, release_steps, repair_steps, repaired}
@@ -200,7 +200,7 @@ module _ (geo : Geometry) (image : Image) (words : Words32 image) (checked : che
     write-here j =
         let from = write-start geo image n buffer words accepted in
         write-cut geo image n buffer from.0 from.1 (write-sector geo image n buffer words handed accepted)
-        (below-ceiling geo image n buffer words accepted) j
+        (below-ceiling geo image n buffer accepted) j
 
     maps-of : {now : Image} → Changes geo image n (some buffer) now → Either geo image written-image now
     maps-of {now} c = ⊎_elim inl (λ set. inr (λ m. go m set (ℕ_discrete m n))) c.map
@@ -223,7 +223,7 @@ module _ (geo : Geometry) (image : Image) (words : Words32 image) (checked : che
           words = c.words;
           mendable-still = c.mendable;
           maps = maps-of c;
-          room = first-cut geo image from.0 from.1 (below-ceiling geo image n buffer words accepted) (first_of j (writing geo image n buffer)) cut-here;
+          room = first-cut geo image from.0 from.1 (below-ceiling geo image n buffer accepted) (first_of j (writing geo image n buffer)) cut-here;
         }
 
   -- an accepted release, which is one step

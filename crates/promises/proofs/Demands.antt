@@ -6,10 +6,11 @@ use mathlib.Core.Logic.{◌≢◌, inl, inr}
 use mathlib.Core.Option.{some, none}
 use Prim.Native.Nat.{ℕ, ◌+◌, ◌-◌, ◌*◌, ◌/◌}
 use native.Mathlib.Omega.{arith}
+use Rattle.std.specs.Prelude.{Err}
 use Rattle.geometry.specs.declared.Geometry.{Geometry}
 use Rattle.geometry.specs.Geometry.{d, block_length}
-use Rattle.image.specs.declared.Found.{Found}
-use Rattle.image.specs.declared.Found.TheVariants.{At, Nothing}
+use Rattle.image.specs.Found.{Found}
+use Rattle.image.specs.Found.{At, Nothing}
 use Rattle.image.specs.Words.{Image}
 use Rattle.image.specs.Slots.{find, map_of}
 use Rattle.image.specs.Blocks.{victim}
@@ -29,9 +30,8 @@ use Rattle.flash.proofs.Counts.{releasing-erasures, filling-erases-nothing}
 use Rattle.flash.proofs.Clearing.{program-clears, run-clears, erases-none}
 use Rattle.flash.proofs.Planned.{writing-fills}
 use Rattle.repairing.proofs.Careful.{repair-careful, repair-erases}
-use Rattle.answers.specs.declared.Answer.{Answer}
-use Rattle.answers.specs.declared.Answer.TheVariants.{Accepted, BadGeometry, BadBuffer, BadNumber, Malformed, Unmapped}
-use Rattle.answers.specs.Answers.{number_of, if_accepted}
+use Rattle.answers.specs.declared.Refusal.TheVariants.{BadGeometry, BadBuffer, BadNumber, Malformed, Unmapped}
+use Rattle.answers.specs.Answers.{Answer, Accepted, number_of, if_accepted}
 use Rattle.answers.proofs.Acceptance.{if-accepted, if-refused, accepted?}
 use Rattle.calls.specs.Refusals.{one_sector, format_rows, check_rows, read_rows, write_rows, release_rows, repair_rows, format_answer, check_answer, read_answer, write_answer, release_answer, repair_answer, row1, row2, row3, row4}
 use Rattle.calls.specs.Calls.{fresh, formatted, totals_of, no_totals, reported, copied_from, read_buffer, write_steps, release_steps, repair_steps, outcome}
@@ -114,7 +114,7 @@ read-returns-the-map geo image n buffer = (
     -- where row 5 does not apply, Unmapped is not given
     not-given :
         (a b c e : Bool) (block rule : ℕ) →
-        cond a BadGeometry (cond b BadBuffer (cond c BadNumber (cond e (Malformed block rule) Accepted))) ≡ Unmapped →
+        cond a (Err BadGeometry) (cond b (Err BadBuffer) (cond c (Err BadNumber) (cond e (Err (Malformed block rule)) Accepted))) ≡ Err Unmapped →
         ⊥
     not-given true b c e block rule q = omega (arith, ap number_of q)
     not-given false true c e block rule q = omega (arith, ap number_of q)
@@ -122,7 +122,7 @@ read-returns-the-map geo image n buffer = (
     not-given false false false true block rule q = omega (arith, ap number_of q)
     not-given false false false false block rule q = omega (arith, ap number_of q)
 
-    unmapped : (f : Found) → find geo image n ≡ f → read_answer geo image n buffer ≡ Unmapped → map_of geo image n ≡ none
+    unmapped : (f : Found) → find geo image n ≡ f → read_answer geo image n buffer ≡ Err Unmapped → map_of geo image n ≡ none
     unmapped (At b i) e answer =
         absurd
         (not-given (row1 geo image).applies (row2 geo image (one_sector buffer)).applies (row3 geo image n).applies (row4 geo image).applies

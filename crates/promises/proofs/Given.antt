@@ -7,11 +7,10 @@ use Prim.Native.Nat.{ℕ, ◌≤◌}
 use native.Mathlib.Omega.{arith}
 use lib.Dec.{eqb}
 use borrow.Author.Tests.{eq-eqb, eqb-true}
+use Rattle.std.specs.Prelude.{Err}
 use Rattle.geometry.specs.declared.Geometry.{Geometry}
 use Rattle.image.specs.Words.{Image}
-use Rattle.answers.specs.declared.Answer.{Answer}
-use Rattle.answers.specs.declared.Answer.TheVariants.{Accepted}
-use Rattle.answers.specs.Answers.{number_of, block_of, rule_of, if_accepted}
+use Rattle.answers.specs.Answers.{Answer, Accepted, number_of, block_of, rule_of, if_accepted}
 use Rattle.answers.proofs.Acceptance.{accepted-number, accepted?, if-accepted, if-refused, others-name-none}
 use Rattle.calls.specs.Refusals.{Row, first_that_applies, row4}
 use Rattle.calls.proofs.Rows.{numbered, numbered-parts}
@@ -25,7 +24,7 @@ number-first (r ∷ rs) t k l = go r.applies (number-first rs (numbered-parts r 
     go :
         (x : Bool) →
         (number_of (first_that_applies rs) ≡ k) ↔ (is_first k rs ≡ true) →
-        (number_of (cond x r.refusal (first_that_applies rs)) ≡ k) ↔ (cond x (eqb r.number k) (is_first k rs) ≡ true)
+        (number_of (cond x (Err r.refusal) (first_that_applies rs)) ≡ k) ↔ (cond x (eqb r.number k) (is_first k rs) ≡ true)
     go true ih =
         let same = (numbered-parts r rs t).0 in
         (λ e. eq-eqb r.number k (sym same ∙ e), λ e. same ∙ eqb-true r.number k e)
@@ -39,7 +38,7 @@ number-none (r ∷ rs) t = go r.applies (number-none rs (numbered-parts r rs t).
     go :
         (x : Bool) →
         (number_of (first_that_applies rs) ≡ 0) ↔ (none_applies rs ≡ true) →
-        (number_of (cond x r.refusal (first_that_applies rs)) ≡ 0) ↔ ((not x && none_applies rs) ≡ true)
+        (number_of (cond x (Err r.refusal) (first_that_applies rs)) ≡ 0) ↔ ((not x && none_applies rs) ≡ true)
     go true ih =
         let parts = numbered-parts r rs t in
         (λ e. absurd (omega (arith, parts.0, parts.1)), λ e. absurd (true≢false (sym e)))
@@ -52,18 +51,18 @@ given-exactly rows t = (number-first rows t, number-none rows t, accepted-number
 module _ (geo : Geometry) (image : Image) where
   abbrev pub FourIsRow4 : List Row → Type 0
   FourIsRow4 [] = Unit {0}
-  FourIsRow4 (r ∷ rs) = ((eqb (number_of r.refusal) 4 ≡ false) ⊎ (r.refusal ≡ (row4 geo image).refusal)) × FourIsRow4 rs
+  FourIsRow4 (r ∷ rs) = ((eqb (number_of (Err r.refusal)) 4 ≡ false) ⊎ (r.refusal ≡ (row4 geo image).refusal)) × FourIsRow4 rs
 
-  given-4 : (rows : List Row) → FourIsRow4 rows → number_of (first_that_applies rows) ≡ 4 → first_that_applies rows ≡ (row4 geo image).refusal
+  given-4 : (rows : List Row) → FourIsRow4 rows → number_of (first_that_applies rows) ≡ 4 → first_that_applies rows ≡ Err (row4 geo image).refusal
   given-4 [] four e = absurd (omega arith)
   given-4 (r ∷ rs) four e = go r.applies (given-4 rs four.1) e
     where
       go :
           (x : Bool) →
-          (number_of (first_that_applies rs) ≡ 4 → first_that_applies rs ≡ (row4 geo image).refusal) →
-          number_of (cond x r.refusal (first_that_applies rs)) ≡ 4 →
-          cond x r.refusal (first_that_applies rs) ≡ (row4 geo image).refusal
-      go true ih e = ⊎_elim (λ other. absurd (true≢false (sym (eq-eqb _ 4 e) ∙ other))) (λ is. is) four.0
+          (number_of (first_that_applies rs) ≡ 4 → first_that_applies rs ≡ Err (row4 geo image).refusal) →
+          number_of (cond x (Err r.refusal) (first_that_applies rs)) ≡ 4 →
+          cond x (Err r.refusal) (first_that_applies rs) ≡ Err (row4 geo image).refusal
+      go true ih e = ⊎_elim (λ other. absurd (true≢false (sym (eq-eqb _ 4 e) ∙ other))) (λ is. ap Err is) four.0
       go false ih e = ih e
 
   pub names-the-pair : (rows : List Row) → FourIsRow4 rows → NamesThePair geo image (first_that_applies rows)

@@ -10,8 +10,8 @@ use borrow.Author.Tests.{eq-eqb}
 use Rattle.geometry.specs.declared.Geometry.{Geometry}
 use Rattle.geometry.specs.Places.{place}
 use Rattle.geometry.proofs.Laws.{limits-pass}
-use Rattle.image.specs.declared.Found.{Found}
-use Rattle.image.specs.declared.Found.TheVariants.{At, Nothing}
+use Rattle.image.specs.Found.{Found}
+use Rattle.image.specs.Found.{At, Nothing}
 use Rattle.image.specs.Words.{Image, contents}
 use Rattle.image.specs.Slots.{find, map_of}
 use Rattle.image.specs.WellFormed.{well_formed}
@@ -28,9 +28,7 @@ use Rattle.flash.specs.Repairing.{repairing}
 use Rattle.flash.proofs.Counts.{placing-words}
 use Rattle.flash.proofs.Unused.{spares-none, releasing-spares}
 use Rattle.repairing.proofs.Careful.{repair-careful}
-use Rattle.answers.specs.declared.Answer.{Answer}
-use Rattle.answers.specs.declared.Answer.TheVariants.{Accepted}
-use Rattle.answers.specs.Answers.{if_accepted}
+use Rattle.answers.specs.Answers.{Answer, Accepted, if_accepted}
 use Rattle.answers.proofs.Acceptance.{if-accepted, if-refused, accepted?}
 use Rattle.calls.specs.Refusals.{check_answer, read_answer, write_answer, release_answer, repair_answer}
 use Rattle.calls.specs.Calls.{fresh, formatted, totals_of, no_totals, reported, read_buffer, write_steps, release_steps, repair_steps}

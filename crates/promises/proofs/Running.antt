@@ -19,9 +19,7 @@ use Rattle.flash.proofs.Filling.{Ready}
 use Rattle.flash.proofs.Stores.{run_none}
 use Rattle.flash.proofs.Written.{free_in, worn_in, Wrote}
 use Rattle.flash.proofs.Alike.{low_bits, low-bits-length, low-bits-words, writing-alike}
-use Rattle.answers.specs.declared.Answer.{Answer}
-use Rattle.answers.specs.declared.Answer.TheVariants.{Accepted}
-use Rattle.answers.specs.Answers.{if_accepted}
+use Rattle.answers.specs.Answers.{Answer, Accepted, if_accepted}
 use Rattle.answers.proofs.Acceptance.{if-accepted, if-refused, accepted?}
 use Rattle.calls.specs.Refusals.{write_answer, release_answer, repair_answer}
 use Rattle.calls.specs.Calls.{write_steps_after, write_steps, release_steps_after, release_steps, repair_steps}

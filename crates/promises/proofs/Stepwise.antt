@@ -17,7 +17,7 @@ use Rattle.flash.specs.Writing.{writing}
 use Rattle.flash.specs.Repairing.{repairing}
 use Rattle.flash.proofs.Stores.{run_none}
 use Rattle.flash.proofs.Parts.{steps-counted, step_past}
-use Rattle.answers.specs.declared.Answer.{Answer}
+use Rattle.answers.specs.Answers.{Answer}
 use Rattle.answers.proofs.Acceptance.{if-refused}
 use Rattle.calls.specs.Refusals.{write_answer, release_answer, repair_answer}
 use Rattle.calls.specs.Calls.{outcome, write_steps, release_steps, repair_steps}

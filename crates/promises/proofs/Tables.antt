@@ -20,7 +20,7 @@ use Rattle.flash.specs.Writing.{must_reclaim, writing}
 use Rattle.flash.specs.Tables.{table_written, table_released}
 use Rattle.flash.proofs.Stores.{run_none}
 use Rattle.flash.proofs.Tables.{written-long, released-long}
-use Rattle.answers.specs.declared.Answer.TheVariants.{Accepted}
+use Rattle.answers.specs.Answers.{Accepted}
 use Rattle.answers.proofs.Acceptance.{accepted?, if-accepted, if-refused}
 use Rattle.calls.specs.Refusals.{format_rows, format_answer}
 use Rattle.calls.specs.Calls.{copied_from, read_buffer, outcome, write_steps, release_steps}
@@ -72,7 +72,7 @@ same-with-any-table geo image n buffer table long =
 pub another-length-is-refused : AnotherLengthIsRefused
 unfolding format_answer build_answer read_answer_with write_answer_with release_answer_with
 another-length-is-refused geo image n buffer table formats other =
-    let rows : NoneApplies (format_rows geo image) = none-applies (format_rows geo image) formats refl in
+    let rows : NoneApplies (format_rows geo image) = none-applies (format_rows geo image) formats in
     let not-so-long = ne_eqb _ _ other in
     rw (rows.0, not-so-long) (refl, refl, refl, refl)
 

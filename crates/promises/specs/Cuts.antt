@@ -11,7 +11,7 @@ use Rattle.image.specs.WellFormed.{R6, well_formed}
 use Rattle.image.specs.Mending.{least_unset, greatest_unset, count_unset, emptiest}
 use Rattle.flash.specs.declared.Step.{Step}
 use Rattle.flash.specs.Steps.{run, erasures_in, first_of}
-use Rattle.answers.specs.declared.Answer.TheVariants.{Accepted}
+use Rattle.answers.specs.Answers.{Accepted}
 use Rattle.calls.specs.Refusals.{check_answer, repair_answer}
 use Rattle.calls.specs.Calls.{write_steps, release_steps, repair_steps, repair_outcome, repaired}
 

@@ -1,6 +1,6 @@
 -- The three demands as statements, in the order of README.md's promises. proofs/Demands.antt proves each under the name in small letters.
 -- Some statements ask that an image, or a buffer to write, is of 32-bit words (Words32): every slice is (image::slots::words_in).
-use Rattle.std.specs.Prelude.{◌≡◌, ◌≢◌, ◌↔◌, Bool, true, false, not, cond, ◌&&◌, List, [], ◌∷◌, ℕ, ◌+◌, ◌-◌, ◌*◌, ◌/◌, ◌≤◌, ◌<◌, eqb, length}
+use Rattle.std.specs.Prelude.{◌≡◌, ◌≢◌, ◌↔◌, Bool, true, false, not, cond, ◌&&◌, List, [], ◌∷◌, ℕ, ◌+◌, ◌-◌, ◌*◌, ◌/◌, ◌≤◌, ◌<◌, eqb, length, Err}
 use Rattle.std.proofs.Math.Option.{some, none}
 use Rattle.ranges.specs.Range.{sum_below}
 use Rattle.bits.specs.Word.{is_set}
@@ -16,9 +16,8 @@ use Rattle.flash.specs.Steps.{programmed_at, run, erases_block, leaves_asked}
 use Rattle.flash.specs.Placing.{releasing}
 use Rattle.flash.specs.Writing.{must_reclaim, writing}
 use Rattle.flash.specs.Repairing.{repairing}
-use Rattle.answers.specs.declared.Answer.{Answer}
-use Rattle.answers.specs.declared.Answer.TheVariants.{Accepted, Unmapped}
-use Rattle.answers.specs.Answers.{number_of, block_of, rule_of}
+use Rattle.answers.specs.declared.Refusal.TheVariants.{Unmapped}
+use Rattle.answers.specs.Answers.{Answer, Accepted, number_of, block_of, rule_of}
 use Rattle.calls.specs.Refusals.{Row, format_rows, check_rows, read_rows, write_rows, release_rows, repair_rows, format_answer, check_answer, read_answer, write_answer, release_answer, repair_answer}
 use Rattle.calls.specs.Calls.{formatted, no_totals, reported, read_buffer, write_steps, write_outcome, written, release_outcome, released, repair_steps, repair_outcome, repaired, outcome}
 use Rattle.promises.specs.Runs.{Call, State, ran, uncut, started}
@@ -93,7 +92,7 @@ abbrev pub ReadReturnsTheMap : Type 0
 ReadReturnsTheMap =
     (geo : Geometry) (image : Image) (n : ℕ) (buffer : List ℕ) →
     (read_answer geo image n buffer ≡ Accepted → map_of geo image n ≡ some (read_buffer geo image n buffer))
-    × (read_answer geo image n buffer ≡ Unmapped → map_of geo image n ≡ none)
+    × (read_answer geo image n buffer ≡ Err Unmapped → map_of geo image n ≡ none)
 
 -- An accepted write leaves the image that its steps (FORMAT.md, Writing) make of the old one, well formed again, and the map with that
 -- one sector set.

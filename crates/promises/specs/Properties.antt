@@ -14,7 +14,7 @@ use Rattle.image.specs.Blocks.{full, free_slots, dead_slots, victim}
 use Rattle.image.specs.WellFormed.{well_formed}
 use Rattle.flash.specs.Steps.{run, words_in, programs_word}
 use Rattle.flash.specs.Placing.{fills_slot, placing}
-use Rattle.answers.specs.declared.Answer.TheVariants.{Accepted}
+use Rattle.answers.specs.Answers.{Accepted}
 use Rattle.calls.specs.Refusals.{format_answer, check_answer, read_answer, write_answer, release_answer}
 use Rattle.calls.specs.Calls.{formatted, reported, read_buffer, write_steps, release_steps, repair_steps, write_outcome, written, release_outcome, released}
 use Rattle.promises.specs.Runs.{Call, ran, uncut, started}

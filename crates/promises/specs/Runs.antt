@@ -4,8 +4,7 @@ use Rattle.std.specs.Prelude.{Bool, true, false, not, ◌&&◌, List, [], ◌∷
 use Rattle.geometry.specs.declared.Geometry.{Geometry}
 use Rattle.image.specs.Words.{Image}
 use Rattle.tables.specs.Tables.{Table}
-use Rattle.answers.specs.declared.Answer.{Answer}
-use Rattle.answers.specs.Answers.{if_accepted}
+use Rattle.answers.specs.Answers.{Answer, if_accepted}
 use Rattle.calls.specs.Refusals.{write_answer, release_answer, repair_answer}
 use Rattle.calls.specs.Calls.{write_outcome, written, release_outcome, released, repair_outcome, repaired, write_first_outcome, written_first, release_first_outcome, released_first, repair_first_outcome, repaired_first}
 use Rattle.tabled.specs.Refusals.{write_answer_with}

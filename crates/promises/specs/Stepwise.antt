@@ -6,8 +6,8 @@ use Rattle.image.specs.Words.{Image}
 use Rattle.flash.specs.declared.NextStep.{NextStep}
 use Rattle.flash.specs.declared.NextStep.TheVariants.{Next, Done}
 use Rattle.flash.specs.Steps.{applied}
-use Rattle.answers.specs.declared.Answer.TheVariants.{Accepted}
-use Rattle.calls.specs.declared.Outcome.{Outcome}
+use Rattle.answers.specs.Answers.{Accepted}
+use Rattle.calls.specs.Outcomes.{Outcome}
 use Rattle.calls.specs.Refusals.{write_answer, release_answer, repair_answer}
 use Rattle.calls.specs.Calls.{outcome, write_outcome, written, release_outcome, released, write_first_outcome, written_first, release_first_outcome, released_first, repair_outcome, repaired, repair_first_outcome, repaired_first}
 use Rattle.stepwise.specs.Calls.{write_step, release_step, repair_step}

@@ -1,14 +1,15 @@
 -- K2: what a lookup table changes and what not, as statements. proofs/Tables.antt proves each under the name in small letters.
-use Rattle.std.specs.Prelude.{◌≡◌, ◌≢◌, ◌⊎◌, true, false, List, [], ℕ, ◌<◌, length, get_or}
+use Rattle.std.specs.Prelude.{◌≡◌, ◌≢◌, ◌⊎◌, true, false, List, [], ℕ, ◌<◌, length, get_or, Err}
 use Rattle.geometry.specs.declared.Geometry.{Geometry}
 use Rattle.geometry.specs.Geometry.{Limits, d}
-use Rattle.image.specs.declared.Found.TheVariants.{At}
+use Rattle.image.specs.Found.{At}
 use Rattle.image.specs.Words.{Image, Words32}
 use Rattle.image.specs.Slots.{find, live_in}
 use Rattle.image.specs.Blocks.{victim}
 use Rattle.tables.specs.Tables.{Table, nowhere, place_word, right_table}
 use Rattle.flash.specs.Writing.{must_reclaim}
-use Rattle.answers.specs.declared.Answer.TheVariants.{Accepted, BadBuffer}
+use Rattle.answers.specs.declared.Refusal.TheVariants.{BadBuffer}
+use Rattle.answers.specs.Answers.{Accepted}
 use Rattle.calls.specs.Refusals.{format_answer, check_answer, read_answer}
 use Rattle.calls.specs.Calls.{read_buffer, outcome, write_outcome, written, release_outcome, released}
 use Rattle.tabled.specs.Refusals.{build_rows, read_rows_with, write_rows_with, release_rows_with, build_answer, read_answer_with, write_answer_with, release_answer_with}
@@ -62,10 +63,10 @@ AnotherLengthIsRefused =
     (geo : Geometry) (image : Image) (n : ℕ) (buffer : List ℕ) (table : Table) →
     format_answer geo image ≡ Accepted →
     length table ≢ geo.logical →
-    (build_answer geo image table ≡ BadBuffer)
-    × (read_answer_with geo image n buffer table ≡ BadBuffer)
-    × (write_answer_with geo image n buffer table ≡ BadBuffer)
-    × (release_answer_with geo image n table ≡ BadBuffer)
+    (build_answer geo image table ≡ Err BadBuffer)
+    × (read_answer_with geo image n buffer table ≡ Err BadBuffer)
+    × (write_answer_with geo image n buffer table ≡ Err BadBuffer)
+    × (release_answer_with geo image n table ≡ Err BadBuffer)
 
 -- A refused call changes no word of table, image or buffer, and reports zeros.
 abbrev pub RefusedChangesNoTable : Type 0

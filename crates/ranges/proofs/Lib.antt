@@ -1,5 +1,7 @@
 pub mod Tests
 pub mod Sums
-pub mod Largest
+pub mod LargestLaws
 pub mod Searches
 pub mod Lists
+pub mod Chosen
+pub mod Links

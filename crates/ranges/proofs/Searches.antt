@@ -2,14 +2,15 @@
 use Prim.Native.Nat.{ℕ, zero, suc, ◌+◌, ◌≤◌, ◌<◌, suc-le-suc}
 use mathlib.Core.Path.{◌≡◌, refl, sym, ap, ◌∙◌}
 use mathlib.Core.Logic.{⊎_elim}
-use mathlib.Core.Bool.{Bool, true, false, ◌&&◌, cond, and-true, true≢false, false≢true}
+use mathlib.Core.Bool.{Bool, true, false, ◌&&◌, cond, and-true, and-false, true≢false, false≢true}
 use native.Mathlib.Nat.{le_step, lt-suc_self, le_refl}
 use native.Mathlib.Decide.{dec_lt}
 use native.Mathlib.Numerals.{add-one}
 use native.Mathlib.Omega.{arith}
 use lib.Dec.{ltb}
-use borrow.Author.Tests.{lt-ltb, le-ltb, ltb-true, ltb-false}
-use Rattle.ranges.specs.Range.{any_below, best_below, first_below, last_below}
+use borrow.Author.Tests.{lt-ltb, le-ltb, ltb-true, ltb-false, eq-eqb, ne_eqb}
+use Rattle.std.specs.Prelude.{Option, Some, None, is_some}
+use Rattle.ranges.specs.Range.{any_below, count_below, best_below, first_below, last_below, nth_passing, index_below}
 use Rattle.ranges.proofs.Tests.{below_suc, any_at}
 
 -- two numbers of which neither is below the other
@@ -310,3 +311,43 @@ last-is m f r l t none =
     (λ k.
     let found = best-some (λ i r. true) m f l t in
     true≢false (sym (best-passes (λ i r. true) m f found) ∙ none (last_below m f) k found))
+
+-- ---- what a search found, as an option
+
+pub index-found : {m r i : ℕ} → r ≡ i → i < m → Some i ≡ index_below m r
+index-found {m} {r} {i} e l = rw (e, lt-ltb i m l)
+
+-- and back: what an answer says of the search
+pub index-some : {m r i : ℕ} → index_below m r ≡ Some i → (r ≡ i) × (i < m)
+index-some {m} {r} {i} e = go (dec_lt r m)
+  where
+    value : Option ℕ → ℕ
+    value (Some n) = n
+    value None = r
+
+    go : Dec (r < m) → (r ≡ i) × (i < m)
+    go (yes l) = let same : r ≡ i = ap value (rw (lt-ltb r m l) at e) in (same, omega arith)
+    go (no l) = absurd (false≢true (ap is_some (rw (le-ltb r m (omega arith)) at e)))
+
+pub index-none : {m r : ℕ} → index_below m r ≡ None → m ≤ r
+index-none {m} {r} e = go (dec_lt r m)
+  where
+    go : Dec (r < m) → m ≤ r
+    go (yes l) = absurd (true≢false (ap is_some (rw (lt-ltb r m l) at e)))
+    go (no l) = omega arith
+
+-- ---- a search for the first, where none before an index passed
+
+-- and there it passes
+pub first-here : (m : ℕ) (f : ℕ → Bool) {i : ℕ} → i ≡ first_below i f → i < m → f i ≡ true → Some i ≡ index_below m (first_below m f)
+first-here m f {i} none l t = index-found (first-is m f i (omega arith) (λ j h. first-before i f (omega (arith, none))) (λ h. t)) l
+
+-- the test that asks also how many passed before
+pub nth-here : (n : ℕ) (f : ℕ → Bool) {i : ℕ} → f i ≡ true → count_below i f ≡ n → nth_passing n f i ≡ true
+nth-here n f {i} t e = rw t (eq-eqb (count_below i f) n e)
+
+pub nth-later : (n : ℕ) (f : ℕ → Bool) (i : ℕ) → count_below i f < n → nth_passing n f i ≡ false
+nth-later n f i l = rw (ne_eqb (count_below i f) n (omega arith)) (and-false (f i))
+
+pub nth-fails : (n : ℕ) (f : ℕ → Bool) (i : ℕ) → f i ≡ false → nth_passing n f i ≡ false
+nth-fails n f i t = rw t

@@ -5,6 +5,7 @@ use mathlib.Core.Logic.{◌⊎◌, inl, inr, ⊎_elim, ◌≢◌}
 use mathlib.Core.Bool.{Bool, true, false, not, cond, true≢false}
 use native.Mathlib.Nat.{eq-zero-or-pos, le_step, lt-suc_self, add-zero, add-suc}
 use native.Mathlib.Decide.{ℕ_discrete, dec_lt}
+use native.Mathlib.Numerals.{add-one}
 use native.Mathlib.Omega.{arith}
 use lib.Dec.{eqb}
 use borrow.Author.Tests.{eq-eqb, ne_eqb, eqb-true, eqb-false}
@@ -192,6 +193,16 @@ count-not m f =
     omega (arith, sum-add m (λ i. one_if (f i)) (λ i. one_if (not (f i))), sum-ext m (λ i l. one-if-not (f i)), sum-const m 1)
 
 -- no index, and none
+-- one index more, that passes
+pub count-more : (i : ℕ) (f : ℕ → Bool) {passed : ℕ} → passed ≡ count_below i f → f i ≡ true → passed + 1 ≡ count_below (i + 1) f
+unfolding sum_below
+count-more i f before t = rw (add-one i, t, ← before)
+
+-- and one that fails
+pub count-same : (i : ℕ) (f : ℕ → Bool) {passed : ℕ} → passed ≡ count_below i f → f i ≡ false → passed ≡ count_below (i + 1) f
+unfolding sum_below
+count-same i f before t = rw (add-one i, t, ← before) (omega arith)
+
 pub count_none : (m : ℕ) {f : ℕ → Bool} → ((i : ℕ) → i < m → f i ≡ false) → count_below m f ≡ 0
 count_none m h = sum-zero m (λ i l. ap one_if (h i l))
 

@@ -1,9 +1,10 @@
 -- The laws of `all_below` and `any_below`: from the test to each index and back. Assumes nothing.
-use Prim.Native.Nat.{ℕ, zero, suc, ◌<◌}
+use Prim.Native.Nat.{ℕ, zero, suc, ◌+◌, ◌<◌}
 use mathlib.Core.Path.{◌≡◌, refl, sym, ap₂, ◌∙◌}
 use mathlib.Core.Logic.{◌⊎◌, inl, inr, ⊎_elim}
 use mathlib.Core.Bool.{Bool, true, false, ◌&&◌, ◌||◌, or-true, false≢true, true≢false}
 use native.Mathlib.Nat.{eq-or-lt_of_le, le_of_suc-le-suc, le_step, lt-suc_self}
+use native.Mathlib.Numerals.{add-one}
 use native.Mathlib.Omega.{arith}
 use Rattle.ranges.specs.Range.{all_below, any_below}
 
@@ -48,6 +49,11 @@ pub all_of : (m : ℕ) {f : ℕ → Bool} → ((i : ℕ) → i < m → f i ≡ t
 unfolding all_below
 all_of zero h = refl
 all_of (suc m) h = rw (all_of m (λ i l. h i (le_step l))) (h m (lt-suc_self m))
+
+-- one index more
+pub all-next : (i : ℕ) (f : ℕ → Bool) {so_far now : Bool} → so_far ≡ all_below i f → now ≡ (so_far && f i) → now ≡ all_below (i + 1) f
+unfolding all_below
+all-next i f before here = rw (add-one i, ← before) here
 
 -- one index that fails
 pub not-all : (m : ℕ) (f : ℕ → Bool) {i : ℕ} → i < m → f i ≡ false → all_below m f ≡ false

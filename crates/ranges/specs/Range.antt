@@ -1,6 +1,6 @@
 -- Tests, sums, counts, lists and searches over 0, 1, .. m − 1. Each takes the last index off, as a loop that counts up adds it:
 -- the invariant of such a loop is the definition at the loop's index. Their laws are in proofs/.
-use Rattle.std.specs.Prelude.{Bool, true, false, cond, ◌&&◌, ◌||◌, List, [], ◌∷◌, ◌++◌, ℕ, zero, suc, ◌+◌, max, eqb, ltb}
+use Rattle.std.specs.Prelude.{Bool, true, false, cond, ◌&&◌, ◌||◌, List, [], ◌∷◌, ◌++◌, ℕ, zero, suc, ◌+◌, max, eqb, ltb, Option, Some, None}
 
 infixr 25 ◌implies◌
 -- a test that is asked only where another passes
@@ -66,3 +66,19 @@ first_below = best_below (λ i r. false)
 -- the greatest index below m at which f passes, or m: each beats those before it
 abbrev pub last_below : ℕ → (ℕ → Bool) → ℕ
 last_below = best_below (λ i r. true)
+
+-- the test passes, and has n such indices before it
+abbrev pub nth_passing : ℕ → (ℕ → Bool) → ℕ → Bool
+nth_passing n f i = f i && eqb (count_below i f) n
+
+-- one pair of numbers is below another: by the first, and among equals by the second
+abbrev pub pair_below : ℕ × ℕ → ℕ × ℕ → Bool
+pair_below a b = ltb a.0 b.0 || eqb a.0 b.0 && ltb a.1 b.1
+
+-- the index whose pair is below beats another
+abbrev pub by_key : (ℕ → ℕ × ℕ) → ℕ → ℕ → Bool
+by_key key i r = pair_below (key i) (key r)
+
+-- the index that a search found, which says m where there is none
+abbrev pub index_below : ℕ → ℕ → Option ℕ
+index_below m i = cond (ltb i m) (Some i) None

@@ -1,14 +1,15 @@
 -- FORMAT.md, The script program: how a script starts, what a record says, the line that it gives, and the image and the L that it leaves.
-use Rattle.std.specs.Prelude.{cond, List, ℕ, ◌+◌, ◌*◌, eqb, get_or}
+use Rattle.std.specs.Prelude.{cond, List, ℕ, ◌+◌, ◌*◌, eqb, get_or, Result, Ok, Err}
 use Rattle.geometry.specs.declared.Geometry.{Geometry}
 use Rattle.geometry.specs.Geometry.{shape, filled}
 use Rattle.image.specs.Words.{Image}
 use Rattle.answers.specs.Answers.{number_of, if_accepted}
 use Rattle.calls.specs.Refusals.{format_answer, read_answer}
 use Rattle.calls.specs.Calls.{format_outcome, formatted, read_buffer, write_outcome, written, release_outcome, released, reported}
-use Rattle.calls.specs.declared.Outcome.{Outcome}
-use Rattle.calls.specs.declared.Totals.{Totals}
+use Rattle.calls.specs.Outcomes.{Outcome, Totals}
 use Rattle.records.specs.declared.Line.{Line}
+use Rattle.records.specs.declared.Operation.{Operation}
+use Rattle.records.specs.declared.Operation.TheVariants.{Write, Read, Release, Format}
 use Rattle.records.specs.declared.Record.{Record}
 
 -- FORMAT.md, The script program: the image of a script has 8 blocks of 16 sectors. How many logical sectors it has, L, is part of how the
@@ -89,6 +90,10 @@ short_line = other_line 0 8
 abbrev pub by_operation {ℓ} : {A : Type ℓ} → ℕ → A → A → A → A → A → A
 by_operation operation write read release format other =
     cond (eqb operation 1) write (cond (eqb operation 2) read (cond (eqb operation 3) release (cond (eqb operation 4) format other)))
+
+-- what the code makes of its number
+abbrev pub operation_of : ℕ → Result Operation ℕ
+operation_of operation = by_operation operation (Ok Write) (Ok Read) (Ok Release) (Ok Format) (Err operation)
 
 -- the line of a record, and the image and the L after it: a refused format keeps both
 unfoldable pub line_of : Image → ℕ → Record → Line

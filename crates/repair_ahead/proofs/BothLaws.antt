@@ -6,11 +6,13 @@ use Prim.Native.Nat.{ℕ, ◌<◌}
 use native.Mathlib.Omega.{arith}
 use lib.Dec.{eqb}
 use borrow.Author.Tests.{eq-eqb, eqb-true}
+use Rattle.std.specs.Prelude.{Option, Some}
 use Rattle.ranges.specs.Range.{or_at, first_below, last_below}
 use Rattle.ranges.proofs.Tests.{either-passes, neither-passes}
 use Rattle.ranges.proofs.Searches.{best-le, best-passes, best-some, first-before, first-is, last-after, last-is}
-use Rattle.placing.specs.Bounds.{bounds_of}
-use Rattle.placing.proofs.BoundLaws.{bounds-ext}
+use Rattle.flash.specs.declared.LiveBounds.{LiveBounds}
+use Rattle.placing.specs.Bounds.{bounds_of, bounds_below}
+use Rattle.placing.proofs.BoundLaws.{bounds-ext, bounds-some, bounds-found, first_more}
 
 module _ (m : ℕ) (f g : ℕ → Bool) where
   -- where the second passes nowhere, they are those of the first
@@ -75,3 +77,26 @@ module _ (m : ℕ) (f g : ℕ → Bool) where
 
     pub joined : bounds_of m (or_at (or_at f (first_below m g)) (last_below m g)) ≡ bounds_of m (λ x. f x || g x)
     joined = ap₂ (λ (x y : ℕ). record { least = x; greatest = y }) (sym first-joined) (sym last-joined)
+
+-- ---- and as the code joins them: the second's are there, and the first's widened by both
+
+module _ (m : ℕ) (f g : ℕ → Bool) where
+  one-at-least : {n : ℕ} → n < m → first_below m (or_at f n) < m
+  one-at-least l = omega (arith, first_more m f l)
+
+  pub both-widened :
+      {there : Option LiveBounds} {moved wider widest : LiveBounds} →
+      there ≡ bounds_below m (bounds_of m f) →
+      Some moved ≡ bounds_below m (bounds_of m g) →
+      ((k : ℕ) (h : ℕ → Bool) → moved.least < k → there ≡ bounds_below k (bounds_of k h) → wider ≡ bounds_of k (or_at h moved.least)) →
+      ((k : ℕ) (h : ℕ → Bool) → moved.greatest < k → Some wider ≡ bounds_below k (bounds_of k h) → widest ≡ bounds_of k (or_at h moved.greatest)) →
+      widest ≡ bounds_of m (λ x. f x || g x)
+  both-widened {moved = moved} e h widens widens_more =
+      let (is, some) = bounds-some m (bounds_of m g) h in
+      let least-is : moved.least ≡ first_below m g = ap (λ (b : LiveBounds). b.least) is in
+      let greatest-is : moved.greatest ≡ last_below m g = ap (λ (b : LiveBounds). b.greatest) is in
+      let l : moved.least < m = omega arith in
+      widens_more m (or_at f moved.least) (omega (arith, greatest-is, greatest-below m f g some))
+      (bounds-found m (bounds_of m (or_at f moved.least)) (widens m f l e) (one-at-least l))
+      ∙ ap₂ (λ (x y : ℕ). bounds_of m (or_at (or_at f x) y)) least-is greatest-is
+      ∙ joined m f g some

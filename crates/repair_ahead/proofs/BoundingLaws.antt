@@ -4,6 +4,7 @@ use mathlib.Core.Bool.{Bool, true, false, ◌&&◌, ◌||◌, true≢false}
 use mathlib.Core.List.{List, [], ◌++◌}
 use Prim.Native.Nat.{ℕ}
 use lib.Dec.{eqb}
+use Rattle.std.specs.declared.ops.ControlFlow.TheVariants.{Continue}
 use Rattle.ranges.proofs.Tests.{both-pass}
 use Rattle.bits.specs.Word.{ones}
 use Rattle.geometry.specs.declared.Geometry.{Geometry}
@@ -12,7 +13,6 @@ use Rattle.image.specs.Blocks.{full}
 use Rattle.flash.specs.declared.LiveBounds.{LiveBounds}
 use Rattle.flash.specs.declared.Step.{Step}
 use Rattle.flash.specs.Repairing.{sets_least, sets_greatest}
-use Rattle.repair_ahead.specs.declared.Sought.TheVariants.{Behind}
 use Rattle.repair_ahead.specs.Bounds.{asked_bounds, bound_steps}
 use Rattle.repair_ahead.specs.Sought.{sought}
 
@@ -49,7 +49,7 @@ module _ {geo : Geometry} {image : Image} {b : ℕ} {fills : Bool} {least greate
       let is-full = (both-pass fills (eqb least ones || eqb greatest ones) w).0 in
       rw e (sym (ap (λ (xs : List Step). sought xs i) (as_read ∙ rw is-full)))
 
-  pub none-unset : wanted ≡ false → Behind i ≡ sought steps i
+  pub none-unset : wanted ≡ false → Continue i ≡ sought steps i
   unfolding sought
   none-unset w =
       sym (ap (λ (xs : List Step). sought xs i) (as_read ∙ neither geo b (asked_bounds geo image b) fills (eqb least ones) (eqb greatest ones) w))

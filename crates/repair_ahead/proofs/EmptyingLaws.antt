@@ -16,7 +16,7 @@ use Rattle.ranges.proofs.Searches.{best-some, best-ext}
 use Rattle.geometry.specs.declared.Geometry.{Geometry}
 use Rattle.geometry.specs.Geometry.{d}
 use Rattle.geometry.specs.Places.{place, erase_word}
-use Rattle.image.specs.declared.Found.TheVariants.{At}
+use Rattle.image.specs.Found.{At}
 use Rattle.image.specs.declared.Slot.{Slot}
 use Rattle.image.specs.declared.Slot.TheVariants.{Free, Live, Dead, Faulty, Superseded}
 use Rattle.image.specs.Words.{Image, erase_count, free_map, entry, contents}
@@ -35,9 +35,9 @@ use Rattle.flash.specs.Ahead.{taken_with, placement_steps, live_before, free_bef
 use Rattle.flash.proofs.Parts.{step_past}
 use Rattle.flash.proofs.CopiesInto.{Emptiable, counted-in, slot-inside, copied-step, step-behind-copies}
 use Rattle.placing.proofs.BoundLaws.{bounds-ext}
-use Rattle.ahead.specs.Ahead.{nth_live}
-use Rattle.ahead.proofs.ReclaimLaws.{Fits, at-inside}
-use Rattle.repair_ahead.specs.Emptying.{nth_of, SameToCopy}
+use Rattle.ahead.specs.Ahead.{Placeable}
+use Rattle.ahead.proofs.ReclaimLaws.{at-inside}
+use Rattle.repair_ahead.specs.Emptying.{SameToCopy}
 
 -- live, as a test of the number
 any-number : (s : Slot) → is_live s ≡ is_live_with (λ n. true) s
@@ -49,24 +49,14 @@ any-number Superseded = refl
 
 -- ---- a slot that is sought, and a copy as the code makes it
 
-module _ (geo : Geometry) (image : Image) (b r m : ℕ) where
-  pub live-sought : m ≡ nth_of geo image true b r → m ≡ nth_live geo image b r
-  unfolding nth_of nth_live
-  live-sought e = e
-
-  pub free-sought : m ≡ nth_of geo image false b r → m ≡ nth_free geo image b r
-  unfolding nth_of nth_free
-  free-sought e = e
-
-  -- a free one is there where more than r slots are free
-  pub free-inside : m ≡ nth_of geo image false b r → r < free_slots geo image b → m < d geo
-  unfolding nth_of
-  free-inside e l =
-      let frees : ℕ → Bool = λ j. is_free (slot geo image b j) in
-      let nth = count-nth (d geo) frees r l in
-      rw e
-      (best-some (λ x y. false) (d geo) (λ j. frees j && eqb (count_below j frees) r) nth.below
-      (rw nth.passes (eq-eqb (count_below nth.i frees) r nth.before)))
+-- a free one with r before it is there where more than r slots are free
+pub free-inside : (geo : Geometry) (image : Image) (b r : ℕ) → r < free_slots geo image b → nth_free geo image b r < d geo
+unfolding nth_free
+free-inside geo image b r l =
+    let frees : ℕ → Bool = λ j. is_free (slot geo image b j) in
+    let nth = count-nth (d geo) frees r l in
+    best-some (λ x y. false) (d geo) (λ j. frees j && eqb (count_below j frees) r) nth.below
+    (rw nth.passes (eq-eqb (count_below nth.i frees) r nth.before))
 
 module _ (geo : Geometry) (image : Image) (v t m n : ℕ) where
   -- part by part
@@ -186,8 +176,10 @@ module _ (geo : Geometry) (image later : Image) (v t : ℕ) (same : SameToCopy g
         )
 
     -- it fits the image
-    pub copy-fits : (p : Placement) → p ≡ copy_into geo image v t m n → Fits geo p
-    copy-fits p e = rw e (live-number geo image v m live, block, to_inside, at-inside geo v m victim l)
+    pub copy-fits : (p : Placement) → p ≡ copy_into geo image v t m n → Placeable geo p
+    copy-fits p e =
+        rw e
+        record { number_is = live-number geo image v m live; block_is = block; slot_is = to_inside; old_is = at-inside geo v m victim l }
 
     step_same :
         (s : ℕ) →
@@ -212,6 +204,13 @@ module _ (geo : Geometry) (image later : Image) (v t : ℕ) (same : SameToCopy g
         step_same (i - 133 * r) (rw e q) ∙ ap (step_at (reclaiming geo later v t)) at
 
   -- ---- behind the copies
+
+  -- there are none where t is no block
+  pub nothing-copied : geo.blocks ≤ t → copy_steps geo image v t ≡ 0
+  nothing-copied none =
+      dite (ℕ_discrete (live_slots geo image v) 0)
+      (no_steps geo image v t)
+      (λ some. absurd (omega (arith, same.target_in (omega arith))))
 
   steps-same : copy_steps geo later v t ≡ copy_steps geo image v t
   steps-same =
@@ -245,8 +244,3 @@ module _ (geo : Geometry) (image later : Image) (v t : ℕ) (same : SameToCopy g
   -- the new count fits a word
   pub count_low : erase_count geo image v ≤ ceiling
   count_low = omega (arith, same.count, able.ready.sound.worn v victim)
-
--- the same of a block t that is known by another name
-pub with-target :
-    (geo : Geometry) (image later : Image) (v : ℕ) {t u : ℕ} → u ≡ t → SameToCopy geo image later v t → SameToCopy geo image later v u
-with-target geo image later v e same = rw e same

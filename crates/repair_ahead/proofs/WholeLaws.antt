@@ -6,9 +6,10 @@ use mathlib.Core.List.{List, [], ◌++◌, append_assoc}
 use Prim.Native.Nat.{ℕ, ◌<◌}
 use native.Mathlib.Omega.{arith}
 use lib.Dec.{eqb}
+use Rattle.std.specs.Prelude.{Result, Ok}
 use Rattle.ranges.proofs.Tests.{any-ext}
 use Rattle.ranges.proofs.Lists.{join-ext}
-use Rattle.ranges.proofs.Largest.{largest-ext}
+use Rattle.ranges.proofs.LargestLaws.{largest-ext}
 use Rattle.geometry.specs.declared.Geometry.{Geometry}
 use Rattle.geometry.specs.Geometry.{d}
 use Rattle.image.specs.Words.{Image, Shaped, Words32, erase_count}
@@ -27,9 +28,11 @@ use Rattle.placing.proofs.BoundLaws.{bounds-ext}
 use Rattle.retiring.proofs.Retired.{Retired, settled-retired}
 use Rattle.retiring.proofs.Kept.{kind-test, live-slots-same, full-same, R6-same}
 use Rattle.restoring.proofs.LowWords.{mendable-map}
+use Rattle.answers.specs.declared.Refusal.{Refusal}
 use Rattle.repairing.specs.declared.RepairPlan.{RepairPlan}
-use Rattle.repairing.specs.declared.RepairPlan.TheVariants.{Mend, Empty, Cramped, Worn}
-use Rattle.repairing.specs.Planned.{repair_planned}
+use Rattle.repairing.specs.declared.RepairPlan.TheVariants.{Mend, Empty}
+use Rattle.repairing.specs.Planned.{repair_planned, plan_or_refusal}
+use Rattle.repairing.proofs.Decided.{not-refused}
 use Rattle.repairing.proofs.Mended.{bounded-bounding, bounded-settling}
 use Rattle.repairing.proofs.Emptied.{victim-settled, emptying-is, none-emptied}
 use Rattle.repair_ahead.proofs.ToCopy.{same-to-copy}
@@ -81,8 +84,6 @@ counting-same geo image now blanks counts = join-ext geo.blocks same
 abbrev pub planned_last : Geometry → Image → RepairPlan → List Step
 planned_last geo image Mend = []
 planned_last geo image (Empty v) = reclaiming geo (counted geo image) v (lowest_open geo image)
-planned_last geo image Cramped = []
-planned_last geo image Worn = []
 
 -- nothing to empty is not a block to empty
 apart-plans : {v : ℕ} → Mend ≡ Empty v → ⊥
@@ -90,6 +91,9 @@ apart-plans e = let z : ◌≡◌ {A = ℕ} 0 1 = cc in omega arith
 
 victim-is : {v w : ℕ} → Empty v ≡ Empty w → v ≡ w
 victim-is e = cc
+
+same-plan : {p q : RepairPlan} → ◌≡◌ {A = Result RepairPlan Refusal} (Ok p) (Ok q) → p ≡ q
+same-plan e = cc
 
 -- ---- of an image that can be mended
 
@@ -128,25 +132,35 @@ module _ (geo : Geometry) (image : Image) (fit : mendable geo image ≡ true) wh
 
     -- ---- (iv) by the plan
 
-    module _ (roomy : lacks_room geo image ≡ false) (wearable : victim_worn geo image ≡ false) where
-      -- where neither refusal 10 nor 6 applies, the plan is whether a block is blank
-      plan-of : (x : Bool) → R6 geo image ≡ x → repair_planned geo image ≡ cond x Mend (Empty (victim geo (settled geo image)))
-      unfolding repair_planned
-      plan-of x e = rw (R6-same geo image (settled geo image) retired ∙ e, roomy, wearable)
+    module _ {plan : RepairPlan} (is : plan_or_refusal (repair_planned geo image) ≡ Ok plan) where
+      roomy : lacks_room geo image ≡ false
+      roomy = (not-refused geo image is).0
 
-      pub emptying-planned : (plan : RepairPlan) → plan ≡ repair_planned geo image → emptying geo (counted geo image) ≡ planned_last geo image plan
-      emptying-planned plan is = go (R6 geo image) refl
+      wearable : victim_worn geo image ≡ false
+      wearable = (not-refused geo image is).1
+
+      -- where neither refusal 10 nor 6 applies, the plan is whether a block is blank
+      plan-of : (x : Bool) → R6 geo image ≡ x → plan ≡ cond x Mend (Empty (victim geo (settled geo image)))
+      unfolding repair_planned
+      plan-of x e = same-plan (sym is ∙ planned x e)
+        where
+          planned : (x : Bool) → R6 geo image ≡ x → plan_or_refusal (repair_planned geo image) ≡ Ok (cond x Mend (Empty (victim geo (settled geo image))))
+          planned true e = rw (R6-same geo image (settled geo image) retired ∙ e)
+          planned false e = rw (R6-same geo image (settled geo image) retired ∙ e, roomy, wearable)
+
+      pub emptying-planned : emptying geo (counted geo image) ≡ planned_last geo image plan
+      emptying-planned = go (R6 geo image) refl
         where
           go : (x : Bool) → R6 geo image ≡ x → emptying geo (counted geo image) ≡ planned_last geo image plan
-          go true e = rw (is ∙ plan-of true e) (none-emptied geo image shaped words mend roomy wearable e)
-          go false e = rw (is ∙ plan-of false e, victim-settled geo image shaped words mend e) (emptying-is geo image shaped words mend e)
+          go true e = rw (plan-of true e) (none-emptied geo image shaped words mend roomy wearable e)
+          go false e = rw (plan-of false e, victim-settled geo image shaped words mend e) (emptying-is geo image shaped words mend e)
 
       -- the block that is planned to be emptied can be
-      pub planned-same : (v : ℕ) → Empty v ≡ repair_planned geo image → SameToCopy geo image (counted geo image) v (lowest_open geo image)
-      planned-same v is = go (R6 geo image) refl
+      pub planned-same : (v : ℕ) → plan ≡ Empty v → SameToCopy geo image (counted geo image) v (lowest_open geo image)
+      planned-same v empties = go (R6 geo image) refl
         where
           go : (x : Bool) → R6 geo image ≡ x → SameToCopy geo image (counted geo image) v (lowest_open geo image)
-          go true e = absurd (apart-plans (sym (is ∙ plan-of true e)))
+          go true e = absurd (apart-plans (sym (plan-of true e) ∙ empties))
           go false e =
-              let same : v ≡ emptiest geo image = victim-is (is ∙ plan-of false e) ∙ victim-settled geo image shaped words mend e in
+              let same : v ≡ emptiest geo image = victim-is (sym empties ∙ plan-of false e) ∙ victim-settled geo image shaped words mend e in
               rw same (same-to-copy geo image shaped words mend e roomy)

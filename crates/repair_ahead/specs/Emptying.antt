@@ -1,24 +1,11 @@
--- K4: what (iv) of a repair copies, told from the image before (i): the slot that is sought among the live or the free ones of a block, and that all
--- that is read for it is the same in the image that (i) to (iii) leave.
-use Rattle.std.specs.Prelude.{Bool, true, false, ◌&&◌, ◌≢◌, ◌≡◌, ℕ, ◌<◌, ◌≤◌, eqb}
-use Rattle.ranges.specs.Range.{count_below, first_below}
+-- K4: what (iv) of a repair copies, told from the image before (i): all that is read for it is the same in the image that (i) to (iii) leave.
+use Rattle.std.specs.Prelude.{Bool, true, ◌≢◌, ◌≡◌, ℕ, ◌<◌, ◌≤◌}
 use Rattle.geometry.specs.declared.Geometry.{Geometry}
 use Rattle.geometry.specs.Geometry.{d}
-use Rattle.image.specs.declared.Slot.{Slot}
 use Rattle.image.specs.Words.{Image, Shaped, Words32, erase_count, free_map, entry, contents}
 use Rattle.image.specs.Slots.{slot, is_free, is_live, is_live_with}
 use Rattle.image.specs.Blocks.{free_slots, live_slots}
 use Rattle.image.specs.WellFormed.{sound}
-
--- a live slot, or else a free one
-abbrev pub is_of : Bool → Slot → Bool
-is_of true s = is_live s
-is_of false s = is_free s
-
--- of these slots of block b, that with r of them before it; d where there is none
-unfoldable pub nth_of : Geometry → Image → Bool → ℕ → ℕ → ℕ
-nth_of geo image live b r =
-    first_below (d geo) (λ m. is_of live (slot geo image b m) && eqb (count_below m (λ i. is_of live (slot geo image b i))) r)
 
 -- v can be reclaimed into t in a later image, and what is live or free, with its entry, map word and contents, and the count of v are as in this one.
 -- Where nothing is live in v, t need be no block.

@@ -1,4 +1,3 @@
 pub mod Sought
 pub mod Bounds
 pub mod Emptying
-pub mod Parts

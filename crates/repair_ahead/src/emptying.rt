@@ -1,61 +1,48 @@
-ghost use Rattle.std.specs.Prelude.{true, ◌≡◌, ◌*◌, ◌≤◌, ◌<◌};
+ghost use Rattle.std.specs.Prelude.{◌≡◌, ◌<◌};
+ghost use Rattle.ranges.specs.Range.{index_below};
 ghost use Rattle.geometry.specs.Geometry.{d};
-ghost use Rattle.image.specs.Words.{Shaped};
-ghost use Rattle.image.specs.Slots.{slot};
-ghost use Rattle.image.specs.Blocks.{free_slots, live_slots, lowest_open};
-ghost use Rattle.image.specs.WellFormed.{R2, MapsAgree};
+ghost use Rattle.image.specs.Views.{of_image, of_block};
+ghost use Rattle.image.specs.Blocks.{lowest_open};
+ghost use Rattle.image.specs.WellFormed.{MapsAgree};
 ghost use Rattle.naming.specs.Completes.{Completes};
 ghost use Rattle.flash.specs.Steps.{step_at};
 ghost use Rattle.flash.specs.Writing.{reclaiming};
 ghost use Rattle.flash.specs.Repairing.{counted};
-ghost use Rattle.flash.specs.Ahead.{taken_with, live_before, bounds_of_both, copy_into, copy_steps};
-ghost use Rattle.repair_ahead.specs.Emptying.{is_of, nth_of, SameToCopy};
+ghost use Rattle.flash.specs.Ahead.{taken_with, nth_free, bounds_of_both};
+ghost use Rattle.repair_ahead.specs.Emptying.{SameToCopy};
 
-use super::bounds::judged_bounds;
+use ahead::nth::nth_live;
 use ahead::placements::placement_step;
-use blocks::{erase_count, free_slots, lowest_open};
+use bits::lesser;
+use blocks::{free_slots, lowest_open};
 use flash::{LiveBounds, NextStep, Placement, Step};
-use geometry::Geometry;
-use image::{Found, Slot};
-use mending::live_judged;
-use naming::judged;
-use placing::{entry_at, widened};
+use image::kinds::count_live;
+use image::view::{Block, View};
+use image::{Entry, Slot};
+use naming::judged::Judged;
+use placing::{entry_at, live_bounds, or_logical, widened};
+use rules::NumberSet;
 
-// Whether slot i of block b is live, or else whether it is free, by its real kind.
-fn is_of(image: &[u32], geo: Geometry, completes: &[u32], live: bool, b: usize, i: usize) -> bool
-    requires shaped { Shaped geo image.now }
-    requires completes { Completes geo image.now completes.now }
-    requires b_lt_blocks { b < geo.blocks }
-    requires i_bound { i < d geo }
-    ensures { result ≡ is_of live (slot geo image.now b i) }
-{
-    match judged(image, geo, completes, b, i) {
-        Slot::Live(_) => live,
-        Slot::Free => !live,
-        Slot::Dead => false,
-        Slot::Faulty => false,
-        Slot::Superseded => false,
-    }
+// The reclaim of (iv), into a block of the same image with a free slot for each live one of the victim: all that is read for it is the same when (i) to
+// (iii) are done.
+#[derive(Clone, Copy)]
+struct Emptying<'i, 'c> {
+    victim: Judged<'i, 'c>,
+    target: Judged<'i, 'c>,
+    ghost one_image: { target.block.image ≡ victim.block.image },
+    ghost maps_agree: { of_image MapsAgree victim.block.image },
+    ghost same: { of_image SameToCopy victim.block.image (of_image counted victim.block.image) victim.block.index target.block.index },
 }
 
-// Of the live slots of block b, or else of its free ones, that with r of them before it; d where there is none.
-fn nth_of(image: &[u32], geo: Geometry, completes: &[u32], live: bool, b: usize, r: usize) -> usize
-    requires shaped { Shaped geo image.now }
-    requires completes { Completes geo image.now completes.now }
-    requires b_lt_blocks { b < geo.blocks }
-    ensures { result ≡ nth_of geo image.now live b r }
+// The free slot of a block that has r free ones before it, if there is one.
+fn nth_free(judged: &Judged, r: usize) -> Option<usize>
+    ensures { result ≡ index_below (d judged.now.block.image.geo) (of_block nth_free judged.now.block r) }
 {
-    let d = geo.d();
-    let mut passed = 0usize;
-    for m in 0..d {
-        if is_of(image, geo, completes, live, b, m) {
-            if passed == r {
-                return m;
-            }
-            passed += 1;
-        }
-    }
-    d
+    ranges::nth(
+        judged.block.image.geo.d(),
+        r,
+        |i| matches!(judged.slot(i), Slot::Free),
+    )
 }
 
 // The map word of slot i with it taken, and every slot of that word before it.
@@ -67,135 +54,109 @@ fn taken_with(word: u32, i: usize) -> u32
     bits::clear_bit(word - lower, k)
 }
 
-// The least and the greatest number that are live in one of two blocks: those of the one, with the least and the greatest of the other.
-fn bounds_of_both(image: &[u32], geo: Geometry, completes: &[u32], t: usize, v: usize) -> LiveBounds
-    requires shaped { Shaped geo image.now }
-    requires completes { Completes geo image.now completes.now }
-    requires t_lt_blocks { t < geo.blocks }
-    requires v_lt_blocks { v < geo.blocks }
-    ensures { result ≡ bounds_of_both geo image.now t v }
+// The least and the greatest number that are live in one of two blocks of an image: those of the one, with the least and the greatest of the other.
+fn bounds_of_both(target: &Judged, victim: &Judged) -> LiveBounds
+    requires { target.now.block.image ≡ victim.now.block.image }
+    ensures { result ≡ of_image bounds_of_both victim.now.block.image target.now.block.index victim.now.block.index }
 {
-    let logical = geo.logical;
-    let there = judged_bounds(image, geo, completes, t);
-    let moved = judged_bounds(image, geo, completes, v);
-    if moved.least == logical {
-        return there;
-    }
-    widened(
-        widened(there, logical, moved.least),
-        logical,
-        moved.greatest,
-    )
-}
-
-// In a reclaim of v into t, the copying of slot m of v, which is live for n, when r were copied before it.
-fn copy_into(
-    image: &[u32],
-    geo: Geometry,
-    completes: &[u32],
-    v: usize,
-    t: usize,
-    m: usize,
-    n: u32,
-    r: usize,
-) -> Placement
-    requires shaped { Shaped geo image.now }
-    requires completes { Completes geo image.now completes.now }
-    requires v_lt_blocks { v < geo.blocks }
-    requires t_lt_blocks { t < geo.blocks }
-    requires t_value { R2 geo image.now t ≡ true }
-    requires m_bound { m < d geo }
-    requires r_value { r ≡ live_before geo image.now v m }
-    requires r_bound { r < free_slots geo image.now t }
-    ensures { result ≡ copy_into geo image.now v t m n }
-{
-    let slot = nth_of(image, geo, completes, false, t, r);
-    let at = geo.map_start(t) + slot / 32;
-    let map = taken_with(image[at], slot);
-    let old = Found::At(v, m);
-    let entry = entry_at(image, geo, old);
-    let closes = free_slots(image, geo, t) == r + 1;
-    Placement {
-        number: n,
-        block: t,
-        slot,
-        map,
-        old,
-        entry,
-        closes,
-        bounds: bounds_of_both(image, geo, completes, t, v),
+    let there = live_bounds(target);
+    match live_bounds(victim) {
+        Some(moved) => widened(Some(widened(there, moved.least)), moved.greatest),
+        None => or_logical(there, victim.block.image.geo.logical),
     }
 }
 
-// How many steps the copies of a reclaim of v into t have: 133 each, and two more where t is full by the last.
-fn copy_steps(image: &[u32], geo: Geometry, completes: &[u32], v: usize, t: usize) -> u32
-    requires shaped { Shaped geo image.now }
-    requires completes { Completes geo image.now completes.now }
-    requires maps_agree { MapsAgree geo image.now }
-    requires v_lt_blocks { v < geo.blocks }
-    requires t_lt_blocks { 1 ≤ live_slots geo image.now v → t < geo.blocks }
-    ensures { result ≡ copy_steps geo image.now v t }
-{
-    let live = live_judged(image, geo, completes, v);
-    if live == 0 {
-        return 0;
-    }
-    let steps = 133 * live;
-    if free_slots(image, geo, t) == live as usize {
-        return steps + 2;
-    }
-    steps
-}
+impl<'i, 'c> Emptying<'i, 'c> {
+    ghost use Rattle.std.specs.Prelude.{Some};
+    ghost use Rattle.image.specs.Words.{entry};
+    ghost use Rattle.image.specs.Slots.{number_in};
+    ghost use Rattle.flash.specs.Ahead.{copy_into, copy_steps};
+    ghost use Rattle.ahead.specs.Ahead.{nth_live};
 
-// Step i of (iv), where it is one of the copies: the two steps behind 133 for each copy belong to the last. The contents are lent on where they are.
-fn copy_step(
-    image: &[u32],
-    geo: Geometry,
-    completes: &[u32],
-    v: usize,
-    t: usize,
-    i: u32,
-) -> NextStep
-    requires shaped { Shaped geo image.now }
-    requires completes { Completes geo image.now completes.now }
-    requires maps_agree { MapsAgree geo image.now }
-    requires same_to_copy { SameToCopy geo image.now (counted geo image.now) v t }
-    requires i_bound { i < copy_steps geo image.now v t }
-    ensures { result ≡ step_at (reclaiming geo (counted geo image.now) v t) i }
-{
-    let last = live_judged(image, geo, completes, v) - 1;
-    let mut r = i / 133;
-    if last < r {
-        r = last;
+    // How many steps the copies have: 133 each, and two more where the target is full by the last.
+    fn copy_steps(&self) -> u32
+        ensures { result ≡ of_block copy_steps self.now.victim.block self.now.target.block.index }
+    {
+        let live = count_live(&self.victim);
+        if live == 0 {
+            return 0;
+        }
+        if free_slots(&self.target.block) == live as usize {
+            return 133 * live + 2;
+        }
+        133 * live
     }
-    let m = nth_of(image, geo, completes, true, v, r as usize);
-    let n = entry_at(image, geo, Found::At(v, m)) % 0x2000_0000;
-    let p = copy_into(image, geo, completes, v, t, m, n, r as usize);
-    let from = geo.contents_start(v, m);
-    let to = from + 128;
-    placement_step(geo, p, &image[from..to], i - 133 * r)
+
+    // The copying of the victim's live slot with r before it, to the free slot of the target with r before it.
+    fn copy_into(&self, r: usize, m: usize, slot: usize) -> Placement
+        requires m_value { index_below (d self.now.victim.block.image.geo) (of_block nth_live self.now.victim.block r) ≡ Some m }
+        requires slot_value { index_below (d self.now.target.block.image.geo) (of_block nth_free self.now.target.block r) ≡ Some slot }
+        ensures { result ≡ of_block copy_into self.now.victim.block self.now.target.block.index m (number_in (of_block entry self.now.victim.block m)) }
+    {
+        let map = self.target.block.map_words()[slot / 32];
+        let old = Some((self.victim.block.index, m));
+        let entry = entry_at(&self.victim.block.image, old);
+        Placement {
+            number: Entry(entry).number(),
+            block: self.target.block.index,
+            slot,
+            map: taken_with(map, slot),
+            old,
+            entry,
+            closes: free_slots(&self.target.block) == r + 1,
+            bounds: bounds_of_both(&self.target, &self.victim),
+        }
+    }
+
+    // Step i of (iv), where it is one of the copies: the two steps behind 133 for each copy belong to the last. A copy goes from a live slot to the free
+    // one with as many before it. (Both are there; with none there would be no step.) The contents are lent on where they are.
+    fn copy_step(&self, i: u32) -> NextStep
+        requires { i < of_block copy_steps self.now.victim.block self.now.target.block.index }
+        ensures { result ≡ step_at (reclaiming self.now.victim.block.image.geo (of_image counted self.now.victim.block.image) self.now.victim.block.index self.now.target.block.index) i }
+    {
+        let copy = lesser(count_live(&self.victim) - 1, i / 133);
+        let r = copy as usize;
+        if let Some(m) = nth_live(&self.victim, r) {
+            if let Some(slot) = nth_free(&self.target, r) {
+                let p = self.copy_into(r, m, slot);
+                let contents = self.victim.block.contents(m);
+                return placement_step(self.victim.block.image.geo, p, contents, i - 133 * copy);
+            }
+        }
+        NextStep::Done
+    }
 }
 
 // Step i of (iv): of the copies into the first open block, then the erasing of v and its new count. With no open block nothing is live in v.
-pub fn empty_step(image: &[u32], geo: Geometry, completes: &[u32], v: usize, i: u32) -> NextStep
-    requires shaped { Shaped geo image.now }
-    requires completes { Completes geo image.now completes.now }
-    requires maps_agree { MapsAgree geo image.now }
-    requires same_to_copy { SameToCopy geo image.now (counted geo image.now) v (lowest_open geo image.now) }
-    ensures { result ≡ step_at (reclaiming geo (counted geo image.now) v (lowest_open geo image.now)) i }
+pub fn empty_step(image: &View, completes: &NumberSet, v: usize, i: u32) -> NextStep
+    requires completes { of_image Completes image.now completes.now.words }
+    requires maps_agree { of_image MapsAgree image.now }
+    requires same { of_image SameToCopy image.now (of_image counted image.now) v (of_image lowest_open image.now) }
+    ensures { result ≡ step_at (reclaiming image.now.geo (of_image counted image.now) v (of_image lowest_open image.now)) i }
 {
-    let t = lowest_open(image, geo);
-    let copies = copy_steps(image, geo, completes, v, t);
-    if i < copies {
-        return copy_step(image, geo, completes, v, t, i);
-    }
+    let image = *image;
+    let block = Block { image, index: v };
+    let victim = Judged { block, completes };
+    let copies = match lowest_open(&image) {
+        Some(index) => {
+            let block = Block { image, index };
+            let target = Judged { block, completes };
+            let emptying = Emptying { victim, target };
+            let copies = emptying.copy_steps();
+            if i < copies {
+                return emptying.copy_step(i);
+            }
+            copies
+        }
+        None => 0,
+    };
     let j = i - copies;
     if j == 0 {
         return NextStep::Next(Step::Erase(v));
     }
     if j == 1 {
-        let count = erase_count(image, geo, v) + 1;
-        let at = geo.start(v);
+        let count = block.erase_count() + 1;
+        let at = image.geo.start(v);
         return NextStep::Next(Step::Program(at, count));
     }
     NextStep::Done

@@ -1,74 +1,58 @@
 ghost use Rattle.std.specs.Prelude.{◌++◌, ◌≡◌, ◌<◌};
-ghost use Rattle.ranges.specs.Range.{join_below};
-ghost use Rattle.image.specs.Words.{Shaped};
+ghost use Rattle.image.specs.Views.{of_image};
 ghost use Rattle.image.specs.WellFormed.{MapsAgree};
 ghost use Rattle.naming.specs.Completes.{Completes};
 ghost use Rattle.flash.specs.Repairing.{clearing, bounding, counting};
-ghost use Rattle.repair_ahead.specs.Parts.{block_steps};
 ghost use Rattle.repair_ahead.specs.Sought.{sought};
 
+use super::among::step_among;
 use super::bounds::bound_in_block;
 use super::counts::count_in_block;
 use super::retires::retire_in_block;
-use super::{Part, Sought};
-use geometry::Geometry;
+use flash::Step;
+use image::view::{Block, View};
+use naming::judged::Judged;
+use rules::NumberSet;
+use std::ops::ControlFlow;
 
-// Step i of block b in one of (i) to (iii).
-fn step_in_block(
-    part: Part,
-    image: &[u32],
-    geo: Geometry,
-    completes: &[u32],
-    b: usize,
-    i: u32,
-) -> Sought
-    requires shaped { Shaped geo image.now }
-    requires completes { Completes geo image.now completes.now }
-    requires maps_agree { MapsAgree geo image.now }
-    requires b_lt_blocks { b < geo.blocks }
-    ensures { result ≡ sought (block_steps part geo image.now b) i }
+// Block b by the real kinds of its slots.
+fn judged<'i, 'c>(image: &View<'i>, completes: &'c NumberSet, b: usize) -> Judged<'i, 'c>
+    requires completes { of_image Completes image.now completes.now.words }
+    requires b_lt_blocks { b < image.now.geo.blocks }
+    ensures image { result.block.image ≡ image.now }
+    ensures index { result.block.index ≡ b }
 {
-    match part {
-        Part::Retires => retire_in_block(image, geo, completes, b, i),
-        Part::Bounds => bound_in_block(image, geo, completes, b, i),
-        Part::Counts => count_in_block(image, geo, b, i),
+    Judged {
+        block: Block {
+            image: *image,
+            index: b,
+        },
+        completes,
     }
-}
-
-// Step i of one of (i) to (iii): the blocks in turn.
-fn part_step(part: Part, image: &[u32], geo: Geometry, completes: &[u32], i: u32) -> Sought
-    requires shaped { Shaped geo image.now }
-    requires completes { Completes geo image.now completes.now }
-    requires maps_agree { MapsAgree geo image.now }
-    ensures { result ≡ sought (join_below geo.blocks (block_steps part geo image.now)) i }
-{
-    let blocks = geo.blocks as usize;
-    let mut left = i;
-    for b in 0..blocks {
-        match step_in_block(part, image, geo, completes, b, left) {
-            Sought::Found(step) => {
-                return Sought::Found(step);
-            }
-            Sought::Behind(k) => {
-                left = k;
-            }
-        }
-    }
-    Sought::Behind(left)
 }
 
 // Step i of (i) to (iii), each told from the image as it is.
-pub fn mended_step(image: &[u32], geo: Geometry, completes: &[u32], i: u32) -> Sought
-    requires shaped { Shaped geo image.now }
-    requires completes { Completes geo image.now completes.now }
-    requires maps_agree { MapsAgree geo image.now }
-    ensures { result ≡ sought (clearing geo image.now ++ (bounding geo image.now ++ counting geo image.now)) i }
+pub fn mended_step(image: &View, completes: &NumberSet, i: u32) -> ControlFlow<Step, u32>
+    requires completes { of_image Completes image.now completes.now.words }
+    requires maps_agree { of_image MapsAgree image.now }
+    ensures { result ≡ sought (of_image clearing image.now ++ (of_image bounding image.now ++ of_image counting image.now)) i }
 {
-    match part_step(Part::Retires, image, geo, completes, i) {
-        Sought::Found(step) => Sought::Found(step),
-        Sought::Behind(j) => match part_step(Part::Bounds, image, geo, completes, j) {
-            Sought::Found(step) => Sought::Found(step),
-            Sought::Behind(k) => part_step(Part::Counts, image, geo, completes, k),
-        },
-    }
+    let blocks = image.geo.blocks as usize;
+    let retired = step_among(
+        blocks,
+        i,
+        |b, k| retire_in_block(&judged(image, completes, b), k),
+    );
+    let ControlFlow::Continue(j) = retired else {
+        return retired;
+    };
+    let bounded = step_among(
+        blocks,
+        j,
+        |b, k| bound_in_block(&judged(image, completes, b), k),
+    );
+    let ControlFlow::Continue(k) = bounded else {
+        return bounded;
+    };
+    step_among(blocks, k, |b, k| count_in_block(&image.block(b), k))
 }

@@ -2,19 +2,19 @@ ghost use Rattle.std.specs.Prelude.{cond, [], ◌∷◌, ◌≡◌};
 ghost use Rattle.flash.specs.declared.Step.TheVariants.{Program};
 ghost use Rattle.repair_ahead.specs.Sought.{sought};
 
-use super::Sought;
 use flash::Step;
+use std::ops::ControlFlow;
 
 // Step i where the list is a single step, and that only if it is wanted.
-pub fn single_step(wanted: bool, at: usize, word: u32, i: u32) -> Sought
+pub fn single_step(wanted: bool, at: usize, word: u32, i: u32) -> ControlFlow<Step, u32>
     ensures { result ≡ sought (cond wanted (Program at word ∷ []) []) i }
 {
     if wanted {
         if i == 0 {
-            return Sought::Found(Step::Program(at, word));
+            return ControlFlow::Break(Step::Program(at, word));
         }
         let later = i - 1;
-        return Sought::Behind(later);
+        return ControlFlow::Continue(later);
     }
-    Sought::Behind(i)
+    ControlFlow::Continue(i)
 }

@@ -8,6 +8,7 @@ use native.Mathlib.Decide.{dec_lt}
 use native.Mathlib.Omega.{arith}
 use lib.Dec.{leb, ltb, eqb}
 use borrow.Author.Tests.{eq-eqb, ne_eqb, lt-ltb, le-ltb, le-leb, lt-leb}
+use Rattle.std.specs.Prelude.{Ok, Err}
 use Rattle.ranges.specs.Range.{count_below}
 use Rattle.ranges.proofs.Sums.{any-count}
 use Rattle.geometry.specs.declared.Geometry.{Geometry}
@@ -22,9 +23,11 @@ use Rattle.flash.specs.Repairing.{emptying, settled, counted, room_in, lacks_roo
 use Rattle.flash.proofs.Planned.{some-open, none_open}
 use Rattle.flash.proofs.Moving.{each-in-turn}
 use Rattle.flash.proofs.CopiesInto.{Emptiable}
+use Rattle.answers.specs.declared.Refusal.{Refusal}
+use Rattle.answers.specs.declared.Refusal.TheVariants.{NoRoom, WornOut}
 use Rattle.repairing.specs.declared.RepairPlan.{RepairPlan}
-use Rattle.repairing.specs.declared.RepairPlan.TheVariants.{Mend, Empty, Cramped, Worn}
-use Rattle.repairing.specs.Planned.{repair_planned}
+use Rattle.repairing.specs.declared.RepairPlan.TheVariants as plan
+use Rattle.repairing.specs.Planned.{Plan, Mend, Empty, Cramped, Worn, repair_planned, plan_or_refusal}
 use Rattle.repairing.proofs.Mended.{Settling, settled-settling, counted-settling}
 use Rattle.repairing.proofs.Emptied.{victim-settled, lowest-counted, emptying-is, emptied-below, emptied-able}
 
@@ -52,12 +55,43 @@ module _ (geo : Geometry) (image : Image) {t : ℕ} (lowest : t ≡ lowest_open 
 
 -- ---- the four plans
 
--- those that are refusals
-abbrev pub refuses : RepairPlan → Bool
-refuses Mend = false
-refuses (Empty v) = false
-refuses Cramped = true
-refuses Worn = true
+-- one that is no refusal, by the code's plan
+abbrev pub planned_as : RepairPlan → Plan
+planned_as plan.Mend = Mend
+planned_as (plan.Empty v) = Empty v
+
+pub is-planned : (x : Plan) {p : RepairPlan} → plan_or_refusal x ≡ Ok p → x ≡ planned_as p
+is-planned Mend {p} e = let same : plan.Mend ≡ p = cc in ap planned_as same
+is-planned (Empty v) {p} e = let same : plan.Empty v ≡ p = cc in ap planned_as same
+is-planned Cramped e = let z : ◌≡◌ {A = ℕ} 0 1 = cc in absurd (omega arith)
+is-planned Worn e = let z : ◌≡◌ {A = ℕ} 0 1 = cc in absurd (omega arith)
+
+-- where a block is blank, refusals 10 and 6 do not apply; nor where the plan is none of them
+module _ (geo : Geometry) (image : Image) where
+  pub spared : R6 geo (settled geo image) ≡ true → (lacks_room geo image ≡ false) × (victim_worn geo image ≡ false)
+  unfolding lacks_room victim_worn
+  spared t = (rw t, rw t)
+
+  pub not-refused :
+      {p : RepairPlan} → plan_or_refusal (repair_planned geo image) ≡ Ok p → (lacks_room geo image ≡ false) × (victim_worn geo image ≡ false)
+  unfolding repair_planned
+  not-refused {p} e = go (R6 geo (settled geo image)) refl (lacks_room geo image) refl (victim_worn geo image) refl
+    where
+      refusal : {why : Refusal} → plan_or_refusal (repair_planned geo image) ≡ Err why → ⊥
+      refusal r = let z : ◌≡◌ {A = ℕ} 0 1 = cc in omega arith
+
+      go :
+          (spare : Bool) →
+          R6 geo (settled geo image) ≡ spare →
+          (lacks : Bool) →
+          lacks_room geo image ≡ lacks →
+          (worn : Bool) →
+          victim_worn geo image ≡ worn →
+          (lacks_room geo image ≡ false) × (victim_worn geo image ≡ false)
+      go true s lacks l worn w = spared s
+      go false s true l worn w = absurd (refusal {why = NoRoom} (rw (s, l)))
+      go false s false l true w = absurd (refusal {why = WornOut} (rw (s, l, w)))
+      go false s false l false w = (l, w)
 
 module _ (geo : Geometry) (image : Image) (shaped : Shaped geo image) (words : Words32 image) (mend : Mendable geo image) where
   to-settled : Settling geo image (settled geo image)
@@ -134,13 +168,6 @@ module _ (geo : Geometry) (image : Image) (shaped : Shaped geo image) (words : W
     unfolding repair_planned
     two-plans = rw (spare-settled, roomy, wearable)
 
-    pub not-refused : {plan : RepairPlan} → plan ≡ repair_planned geo image → refuses plan ≡ false
-    not-refused e = ap refuses (e ∙ two-plans) ∙ go (R6 geo image)
-      where
-        go : (x : Bool) → refuses (cond x Mend (Empty (victim geo (settled geo image)))) ≡ false
-        go true = refl
-        go false = refl
-
     pub mend-says : Mend ≡ repair_planned geo image → emptying geo (counted geo image) ≡ []
     unfolding emptying
     mend-says e = rw (R6-alike geo image (counted geo image) to-counted.blanks ∙ go (R6 geo image) (e ∙ two-plans))
@@ -149,16 +176,16 @@ module _ (geo : Geometry) (image : Image) (shaped : Shaped geo image) (words : W
         go true e = refl
         go false e = let z : ◌≡◌ {A = ℕ} 0 1 = cc in absurd (omega arith)
 
-    module _ {v : ℕ} (plan : Empty v ≡ repair_planned geo image) where
+    module _ {v : ℕ} (empties : Empty v ≡ repair_planned geo image) where
       none-blank : R6 geo image ≡ false
-      none-blank = go (R6 geo image) (plan ∙ two-plans)
+      none-blank = go (R6 geo image) (empties ∙ two-plans)
         where
           go : (x : Bool) → Empty v ≡ cond x Mend (Empty (victim geo (settled geo image))) → x ≡ false
           go true e = let z : ◌≡◌ {A = ℕ} 0 1 = cc in absurd (omega arith)
           go false e = refl
 
       is-emptiest : v ≡ emptiest geo image
-      is-emptiest = same (plan ∙ two-plans ∙ rw none-blank) ∙ victim-settled geo image shaped words mend none-blank
+      is-emptiest = same (empties ∙ two-plans ∙ rw none-blank) ∙ victim-settled geo image shaped words mend none-blank
         where
           same : {x y : ℕ} → Empty x ≡ Empty y → x ≡ y
           same e = cc

@@ -1,156 +1,140 @@
 #![tactic(auto)]
 
 // A repair (K4): what it decides before its first step, and then (i) to (iv), one after the other, as far as steps are left.
-ghost use Rattle.std.specs.Prelude.{true, false, ◌≡◌, ◌-◌, ◌<◌, ◌≤◌, length};
+ghost use Rattle.std.specs.Prelude.{true, Ok, ◌≡◌, ◌<◌, ◌≤◌};
 ghost use Rattle.geometry.specs.Geometry.{d};
-ghost use Rattle.image.specs.Words.{Shaped, erase_count};
+ghost use Rattle.image.specs.Words.{Words32, erase_count};
 ghost use Rattle.image.specs.Blocks.{live_slots, lowest_open};
 ghost use Rattle.image.specs.WellFormed.{ceiling, MapsAgree};
 ghost use Rattle.image.specs.Mending.{mendable};
-ghost use Rattle.flash.specs.Steps.{run, first_of, progress};
+ghost use Rattle.image.specs.Views.{of_image};
+ghost use Rattle.flash.specs.Steps.{erasures_in, first_of};
 ghost use Rattle.flash.specs.Writing.{EachInTurn, copying, reclaiming};
-ghost use Rattle.flash.specs.Repairing.{repairing, room_in, lacks_room, victim_worn};
-ghost use Rattle.repairing.specs.Planned.{mending, repair_planned};
+ghost use Rattle.flash.specs.Repairing.{repairing, room_in};
+ghost use Rattle.flash.specs.Runs.{Does, of_run};
+ghost use Rattle.repairing.specs.Planned.{mending, repair_planned, plan_or_refusal};
 
-use blocks::{count_blank, erase_count, free_slots, lowest_open};
-use flash::Progress;
-use geometry::Geometry;
-use mending::{emptiest, live_judged};
+use answers::Refusal;
+use blocks::{count_blank, free_slots, lowest_open};
+use flash::run::Run;
+use image::kinds::count_live;
+use image::view::View;
+use mending::emptiest;
+use naming::judged::Judged;
 use naming::mark_all_completes;
 use restoring::{restore_bounds, restore_count};
 use retiring::retire_superseded;
+use rules::NumberSet;
 use writing::reclaiming::{copy_live, erase_victim};
 
-// How a repair goes about it: (i) to (iii), as a block is blank; these and then this block is emptied; or not at all, since there is no room for what
-// is live in that block, or it cannot be erased once more.
-#[derive(Clone, Copy)]
+// How a repair that is not refused goes about it: (i) to (iii), as a block is blank; or these and then this block is emptied.
+#[derive(Clone, Copy, Debug, PartialEq, Eq)]
 pub enum RepairPlan {
     Mend,
     Empty(usize),
-    Cramped,
-    Worn,
 }
 
 // The free slots of the first open block, which the live slots of the emptied block go to; 0 where none is open.
-fn room(image: &[u32], geo: Geometry) -> usize
-    requires shaped { Shaped geo image.now }
-    requires maps_agree { MapsAgree geo image.now }
-    ensures { result ≡ room_in geo image.now }
+fn room(image: &View) -> usize
+    requires { of_image MapsAgree image.now }
+    ensures { result ≡ of_image room_in image.now }
 {
-    let blocks = geo.blocks as usize;
-    let open = lowest_open(image, geo);
-    if open < blocks {
-        return free_slots(image, geo, open);
+    match lowest_open(image) {
+        Some(open) => free_slots(&image.block(open)),
+        None => 0,
     }
-    0
 }
 
-// How a repair goes about it, told from the image before (i): what (i) changes bears on none of it.
-pub fn plan(image: &[u32], geo: Geometry) -> RepairPlan
-    requires shaped { Shaped geo image.now }
-    requires image_value { mendable geo image.now ≡ true }
-    ensures { result ≡ repair_planned geo image.now }
+// How a repair goes about it, told from the image before (i): what (i) changes bears on none of it. It is refused where a block has to be emptied and
+// there is no room for what is live there, or it cannot be erased once more.
+pub fn plan(image: &View) -> Result<RepairPlan, Refusal>
+    requires { of_image mendable image.now ≡ true }
+    ensures { result ≡ plan_or_refusal (of_image repair_planned image.now) }
 {
-    let blocks = geo.blocks as usize;
-    if count_blank(image, geo) != 0 {
-        return RepairPlan::Mend;
+    if count_blank(image) != 0 {
+        return Ok(RepairPlan::Mend);
     }
-    let mut completes = [0xFFFF_FFFFu32; 124];
-    mark_all_completes(image, geo, &mut completes);
-    let v = emptiest(image, geo, &completes);
-    if blocks <= v {
-        return RepairPlan::Cramped;
+    let mut completes = NumberSet::new();
+    mark_all_completes(image, &mut completes);
+    let Some(v) = emptiest(image, &completes) else {
+        return Err(Refusal::NoRoom);
+    };
+    let block = image.block(v);
+    let judged = Judged {
+        block,
+        completes: &completes,
+    };
+    if room(image) < count_live(&judged) as usize {
+        return Err(Refusal::NoRoom);
     }
-    if room(image, geo) < live_judged(image, geo, &completes, v) as usize {
-        return RepairPlan::Cramped;
+    if block.erase_count() == 1_000_000 {
+        return Err(Refusal::WornOut);
     }
-    if erase_count(image, geo, v) == 1_000_000 {
-        return RepairPlan::Worn;
-    }
-    RepairPlan::Empty(v)
+    Ok(RepairPlan::Empty(v))
 }
 
-// (i) to (iii), each begun only when all before it was done. Returns how many steps are left of those that the call may do.
-fn mend(image: &mut [u32], geo: Geometry, most: u32) -> u32
-    requires shaped { Shaped geo image.old }
-    requires image_value { mendable geo image.old ≡ true }
-    ensures value { result ≡ most - length (mending geo image.old) }
-    ensures image_after { image.new ≡ run geo image.old (first_of most (mending geo image.old)) }
+// (i) to (iii), each begun only when all before it was done. (It hands on what (i) says of the words.)
+fn mend(run: &mut Run)
+    requires { of_run mendable run.old ≡ true }
+    ensures words32 { Words32 run.old.words.now }
+    ensures run_after { Does run.old run.new (of_run mending run.old) }
 {
-    let left_retired = retire_superseded(image, geo, most);
-    if left_retired == 0 {
-        return 0;
+    retire_superseded(run);
+    if run.left == 0 {
+        return;
     }
-    let left_bounded = restore_bounds(image, geo, left_retired);
-    if left_bounded == 0 {
-        return 0;
+    restore_bounds(run);
+    if run.left == 0 {
+        return;
     }
-    restore_count(image, geo, left_bounded)
+    restore_count(run);
 }
 
 // (iv), its copying: the live slots of block v go to the first open block. Where no block is open, none of its slots is live.
-fn copy_out(image: &mut [u32], geo: Geometry, v: usize, most: u32) -> u32
-    requires shaped { Shaped geo image.old }
-    requires maps_agree { MapsAgree geo image.old }
-    requires v_lt_blocks { v < geo.blocks }
-    requires each_in_turn { lowest_open geo image.old < geo.blocks → EachInTurn geo image.old v (lowest_open geo image.old) }
-    requires v_value { geo.blocks ≤ lowest_open geo image.old → live_slots geo image.old v ≡ 0 }
-    ensures value { result ≡ most - length (copying geo image.old v (lowest_open geo image.old) (d geo)) }
-    ensures image_after { image.new ≡ run geo image.old (first_of most (copying geo image.old v (lowest_open geo image.old) (d geo))) }
+fn copy_out(run: &mut Run, v: usize)
+    requires maps_agree { of_run MapsAgree run.old }
+    requires v_lt_blocks { v < run.old.geo.blocks }
+    requires each_in_turn { of_run lowest_open run.old < run.old.geo.blocks → of_run EachInTurn run.old v (of_run lowest_open run.old) }
+    requires v_value { run.old.geo.blocks ≤ of_run lowest_open run.old → of_run live_slots run.old v ≡ 0 }
+    ensures { Does run.old run.new (of_run copying run.old v (of_run lowest_open run.old) (d run.old.geo)) }
 {
-    let blocks = geo.blocks as usize;
-    let open = lowest_open(image, geo);
-    if blocks <= open {
-        return most;
+    if let Some(t) = lowest_open(&run.view()) {
+        copy_live(run, v, t, &mut []);
     }
-    let mut none = [0u16; 0];
-    copy_live(image, geo, v, open, &mut none, most)
 }
 
-// (iv): block v is emptied, and then erased.
-fn empty(image: &mut [u32], geo: Geometry, v: usize, most: u32) -> Progress
-    requires shaped { Shaped geo image.old }
-    requires maps_agree { MapsAgree geo image.old }
-    requires v_lt_blocks { v < geo.blocks }
-    requires v_bound { erase_count geo image.old v < ceiling }
-    requires each_in_turn { lowest_open geo image.old < geo.blocks → EachInTurn geo image.old v (lowest_open geo image.old) }
-    requires v_value { geo.blocks ≤ lowest_open geo image.old → live_slots geo image.old v ≡ 0 }
-    ensures value { result ≡ progress most (reclaiming geo image.old v (lowest_open geo image.old)) }
-    ensures image_after { image.new ≡ run geo image.old (first_of most (reclaiming geo image.old v (lowest_open geo image.old))) }
+// (iv): block v is emptied, and then erased. Returns how many blocks it erased.
+fn empty(run: &mut Run, v: usize) -> u32
+    requires maps_agree { of_run MapsAgree run.old }
+    requires v_lt_blocks { v < run.old.geo.blocks }
+    requires v_bound { of_run erase_count run.old v < ceiling }
+    requires each_in_turn { of_run lowest_open run.old < run.old.geo.blocks → of_run EachInTurn run.old v (of_run lowest_open run.old) }
+    requires v_value { run.old.geo.blocks ≤ of_run lowest_open run.old → of_run live_slots run.old v ≡ 0 }
+    ensures value { result ≡ erasures_in (first_of run.old.left (of_run reclaiming run.old v (of_run lowest_open run.old))) }
+    ensures run_after { Does run.old run.new (of_run reclaiming run.old v (of_run lowest_open run.old)) }
 {
-    let count = erase_count(image, geo, v);
-    let left_copied = copy_out(image, geo, v, most);
-    if left_copied == 0 {
-        return Progress {
-            left: 0,
-            erasures: 0,
-        };
+    let count = run.view().block(v).erase_count();
+    copy_out(run, v);
+    if run.left == 0 {
+        return 0;
     }
-    let left = erase_victim(image, geo, v, count, left_copied);
-    Progress { left, erasures: 1 }
+    erase_victim(run, v, count);
+    1
 }
 
-// A repair by its plan, as far as its first `most` steps, with how far they come. One that is refused has no steps.
-pub fn repair_along(image: &mut [u32], geo: Geometry, plan: RepairPlan, most: u32) -> Progress
-    requires shaped { Shaped geo image.old }
-    requires image_value { mendable geo image.old ≡ true }
-    requires plan_value { plan ≡ repair_planned geo image.old }
-    requires image_value_2 { lacks_room geo image.old ≡ false }
-    requires image_value_3 { victim_worn geo image.old ≡ false }
-    ensures value { result ≡ progress most (repairing geo image.old) }
-    ensures image_after { image.new ≡ run geo image.old (first_of most (repairing geo image.old)) }
+// A repair by its plan, as far as steps are left. Returns how many blocks it erased.
+pub fn repair_along(run: &mut Run, plan: RepairPlan) -> u32
+    requires image_value { of_run mendable run.old ≡ true }
+    requires plan_value { plan_or_refusal (of_run repair_planned run.old) ≡ Ok plan }
+    ensures value { result ≡ erasures_in (first_of run.old.left (of_run repairing run.old)) }
+    ensures run_after { Does run.old run.new (of_run repairing run.old) }
 {
-    let left = mend(image, geo, most);
-    if left == 0 {
-        return Progress {
-            left: 0,
-            erasures: 0,
-        };
+    mend(run);
+    if run.left == 0 {
+        return 0;
     }
     match plan {
-        RepairPlan::Mend => Progress { left, erasures: 0 },
-        RepairPlan::Empty(v) => empty(image, geo, v, left),
-        RepairPlan::Cramped => Progress { left, erasures: 0 },
-        RepairPlan::Worn => Progress { left, erasures: 0 },
+        RepairPlan::Mend => 0,
+        RepairPlan::Empty(v) => empty(run, v),
     }
 }

@@ -8,6 +8,8 @@ use native.Mathlib.Decide.{dec_lt, ℕ_discrete}
 use native.Mathlib.Omega.{arith}
 use lib.Dec.{ltb, eqb}
 use borrow.Author.Tests.{eq-eqb, eqb-true, eqb-false, lt-ltb, le-ltb}
+use Rattle.std.specs.Prelude.{Option, Some, None}
+use Rattle.std.specs.Option.{unwrap_or}
 use Rattle.ranges.specs.Range.{one_if, sum_below, join_below}
 use Rattle.ranges.proofs.Tests.{both-pass, any_at}
 use Rattle.ranges.proofs.Sums.{sum-ext, sum-zero, count_none, count-fails}
@@ -27,14 +29,17 @@ use Rattle.image.specs.Mending.{least_unset, greatest_unset, least_bound}
 use Rattle.image.proofs.Own.{live-number}
 use Rattle.image.proofs.Facts.{live-for}
 use Rattle.image.proofs.Mending.{Mendable}
+use Rattle.flash.specs.declared.LiveBounds.{LiveBounds}
 use Rattle.flash.specs.declared.Step.{Step}
 use Rattle.flash.specs.Steps.{run, words_in, erasures_in, leaves_asked}
-use Rattle.flash.specs.Placing.{least_live, greatest_live}
+use Rattle.flash.specs.Placing.{least_live, greatest_live, live_bounds}
 use Rattle.flash.specs.Repairing.{or_zero, sets_least, sets_greatest, bounding}
 use Rattle.flash.proofs.Stores.{run-append, asked-append, exact_none, Counts, counts-words, counts-erasures, count-append, count-one}
 use Rattle.flash.proofs.Along.{Along, join-each, along-append, along-join}
 use Rattle.flash.proofs.Joins.{count-join}
 use Rattle.flash.proofs.Kept.{live-between}
+use Rattle.placing.specs.Bounds.{bounds_below}
+use Rattle.placing.proofs.BoundLaws.{bounds-some, bounds-none}
 use Rattle.restoring.proofs.LowWords.{LowOnly, low-none, low-then, programs_where, Programmed, programmed-where, along-where}
 use Rattle.restoring.proofs.LowWords.{full-kept, live-slots-kept, least-live-kept, greatest-live-kept, current-kept, still-mendable}
 
@@ -175,6 +180,22 @@ module _ (geo : Geometry) (image : Image) where
       let found = best-passes (λ i r. false) geo.logical (live_in geo image b) (omega (arith, n, best-le (λ i r. false) geo.logical (live_in geo image b))) in
       let (i, h, t) = any_at (d geo) (λ i. is_live_for (least_live geo image b) (slot geo image b i)) found in
       some-live b i x h (live-for (least_live geo image b) (slot geo image b i) t)
+
+  -- both, by the bounds of the live numbers, if there are any
+  pub asked-bounds :
+      (b : ℕ) {live : Option LiveBounds} →
+      live ≡ bounds_below geo.logical (live_bounds geo image b) →
+      let asked = unwrap_or live (record { least = 0; greatest = 0 }) in
+      (asked.least ≡ least_asked b) × (asked.greatest ≡ greatest_asked b)
+  unfolding least_live
+  asked-bounds b {live = Some x} e =
+      let some = bounds-some geo.logical (live_bounds geo image b) e in
+      let bound : (y : ℕ) → or_zero geo image b y ≡ y = λ y. some-live-bound b y (λ none. omega (arith, none, some.1)) in
+      (ap (λ (l : LiveBounds). l.least) some.0 ∙ sym (bound _), ap (λ (l : LiveBounds). l.greatest) some.0 ∙ sym (bound _))
+  asked-bounds b {live = None} e =
+      let none : least_live geo image b ≡ geo.logical =
+      omega (arith, bounds-none geo.logical (live_bounds geo image b) e, best-le (λ i r. false) geo.logical (live_in geo image b)) in
+      (sym (none-live-zero b _ none), sym (none-live-zero b _ none))
 
   pub asked-between : (b i n : ℕ) → i < d geo → slot geo image b i ≡ Live n → (least_asked b ≤ n) × (n ≤ greatest_asked b)
   asked-between b i n h e =

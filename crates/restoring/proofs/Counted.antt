@@ -13,7 +13,7 @@ use borrow.Author.Tests.{eqb-false}
 use Rattle.ranges.specs.Range.{any_below, count_below, join_below}
 use Rattle.ranges.proofs.Tests.{below_suc, unless, any_at, none-at}
 use Rattle.ranges.proofs.Sums.{sum-ext, sum-zero}
-use Rattle.ranges.proofs.Largest.{largest-bound}
+use Rattle.ranges.proofs.LargestLaws.{largest-bound}
 use Rattle.ranges.proofs.Lists.{join-none}
 use Rattle.geometry.specs.declared.Geometry.{Geometry}
 use Rattle.geometry.specs.Places.{place, erase_word, least_word, greatest_word}

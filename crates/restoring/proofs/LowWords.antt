@@ -18,7 +18,7 @@ use Rattle.geometry.specs.Geometry.{Limits, d, k, block_length}
 use Rattle.geometry.specs.Places.{place, map_word, entry_word, content_word}
 use Rattle.geometry.proofs.Laws.{low-in-block, map-in-block, entry-in-block, map-covers, content-word-inside, content-word-after}
 use Rattle.image.specs.declared.Slot.TheVariants.{Live}
-use Rattle.image.specs.declared.Found.TheVariants.{At}
+use Rattle.image.specs.Found.{At}
 use Rattle.image.specs.Words.{Image, Shaped, Words32, word, erase_count, least_mapped, greatest_mapped, free_map, map_bit, entry, contents}
 use Rattle.image.specs.Slots.{slot, is_free, is_live, is_faulty, is_live_for, live_in, find, map_of}
 use Rattle.image.specs.Blocks.{blank, full, free_slots, live_slots}

@@ -15,7 +15,7 @@ use Rattle.geometry.specs.Geometry.{d, k}
 use Rattle.geometry.specs.Places.{place, entry_word}
 use Rattle.geometry.proofs.Laws.{map-covers}
 use Rattle.image.specs.declared.Slot.TheVariants.{Dead, Superseded}
-use Rattle.image.specs.declared.Found.TheVariants.{At}
+use Rattle.image.specs.Found.{At}
 use Rattle.image.specs.Words.{Image, Words32, Shaped, erase_count, least_mapped, greatest_mapped, map_bit, entry, contents}
 use Rattle.image.specs.Slots.{valid_bit, is_complete, is_passing, is_complete_for, has_complete, superseded, slot}
 use Rattle.image.specs.WellFormed.{NoneSuperseded}

@@ -1,7 +1,8 @@
 -- What the tests of a rule go by: tests over a block's slots, read as the code reads them. Assumes nothing.
 use mathlib.Core.Path.{◌≡◌, refl, sym, ap, ap₂, ◌∙◌}
 use mathlib.Core.Bool.{Bool, true, false, not, ◌&&◌, ◌||◌}
-use Prim.Native.Nat.{ℕ, ◌+◌, ◌%◌, ◌≤◌}
+use Prim.Native.Nat.{ℕ, ◌+◌, ◌/◌, ◌%◌, ◌<◌, ◌≤◌}
+use lib.ListN.{get_or}
 use native.Mathlib.Numerals.{add-one}
 use native.Mathlib.Omega.{arith}
 use lib.Bits.{bit_and, and_le_l, and_le_r, and_self}
@@ -10,25 +11,20 @@ use borrow.Author.Tests.{eq-eqb, ne_eqb, eqb-true, eqb-false}
 use Rattle.ranges.specs.Range.{◌implies◌, all_below}
 use Rattle.bits.specs.Word.{ones, is_set}
 use Rattle.geometry.specs.declared.Geometry.{Geometry}
-use Rattle.geometry.specs.Geometry.{d}
-use Rattle.geometry.specs.Places.{place, least_word, greatest_word, entry_word, map_word}
-use Rattle.image.specs.Words.{Image, word, least_mapped, greatest_mapped, free_map, map_bit, entry, contents}
+use Rattle.geometry.specs.Geometry.{d, Limits}
+use Rattle.geometry.specs.Places.{place, least_word, greatest_word, map_word}
+use Rattle.geometry.proofs.Laws.{map-covers}
+use Rattle.image.specs.Words.{Image, word, least_mapped, greatest_mapped, map_words, free_map, map_bit, entry, entries, contents}
 use Rattle.image.specs.declared.Slot.{Slot}
 use Rattle.image.specs.Slots.{own_slot, slot, is_free, is_free_entry, is_faulty}
-use Rattle.image.specs.Blocks.{full, lowest_free}
-use Rattle.image.specs.WellFormed.{outside, all_ones, none_with, bounds_kept}
+use Rattle.image.specs.WellFormed.{all_ones}
 use Rattle.image.proofs.Own.{free_own, faulty-own}
-use Rattle.image.proofs.Reading.{full-first}
+use Rattle.image.proofs.Places.{free-map-at, entries-at}
 
 -- a test that passes at every index so far, and at the next
 pub all_more : (i : ℕ) (f : ℕ → Bool) → all_below i f ≡ true → f i ≡ true → all_below (i + 1) f ≡ true
 unfolding all_below
 all_more i f before here = rw (add-one i, before) here
-
--- what a test says of every index so far, and of the next
-pub all-next : (i : ℕ) (f : ℕ → Bool) {so_far now : Bool} → so_far ≡ all_below i f → now ≡ (so_far && f i) → now ≡ all_below (i + 1) f
-unfolding all_below
-all-next i f before here = rw (add-one i, ← before) here
 
 -- two words have only ones in common exactly where both are ones
 pub and-ones : (a w : ℕ) → a ≤ ones → w ≤ ones → eqb (bit_and a w) ones ≡ (eqb a ones && eqb w ones)
@@ -42,10 +38,10 @@ and-ones a w h l = go (eqb a ones) (eqb w ones) refl refl
     go true false p q = ne_eqb (bit_and a w) ones (λ r. eqb-false w ones q (omega (arith, and_le_r a w)))
     go false t p q = ne_eqb (bit_and a w) ones (λ r. eqb-false a ones p (omega (arith, and_le_l a w)))
 
--- one test passes and another does not
-not-implies : (a b : Bool) → (a && not b) ≡ not (a implies b)
-not-implies true b = refl
-not-implies false b = refl
+-- a test that is asked only where another passes, as the code asks it
+either : (a c : Bool) → (not a || c) ≡ (a implies c)
+either true c = refl
+either false c = refl
 
 module _ (geo : Geometry) (image : Image) where
   -- words 1 and 2 of a block, the map word of a slot, and its entry, by the places that the code reads
@@ -61,22 +57,18 @@ module _ (geo : Geometry) (image : Image) where
   unfolding free_map
   map_read b i p e = ap (word image) e
 
-  entry_read : (b i p : ℕ) → p ≡ place geo b (entry_word geo i) → word image p ≡ entry geo image b i
-  unfolding entry
-  entry_read b i p e = ap (word image) e
-
-  -- R2's test of a slot, by its map word at p and its entry at q
+  -- R2's test of a slot, by the words that the code reads
   abbrev pub agrees : ℕ → ℕ → Bool
   agrees b i = map_bit geo image b i implies is_free_entry (entry geo image b i)
 
-  pub agrees-read :
-      (b i p q : ℕ) →
-      p ≡ place geo b (map_word i) →
-      q ≡ place geo b (entry_word geo i) →
-      (is_set (word image p) (i % 32) && not (is_free_entry (word image q))) ≡ not (agrees b i)
-  agrees-read b i p q at_map at_entry_lem =
-      ap₂ (λ (w e : ℕ). is_set w (i % 32) && not (is_free_entry e)) (map_read b i p at_map) (entry_read b i q at_entry_lem)
-      ∙ not-implies (map_bit geo image b i) (is_free_entry (entry geo image b i))
+  pub agrees-test :
+      Limits geo →
+      (b i : ℕ) →
+      i < d geo →
+      (not (is_set (get_or (map_words geo image b) (i / 32) 0) (i % 32)) || is_free_entry (get_or (entries geo image b) i 0)) ≡ agrees b i
+  agrees-test limits b i l =
+      either (is_set (get_or (map_words geo image b) (i / 32) 0) (i % 32)) (is_free_entry (get_or (entries geo image b) i 0))
+      ∙ ap₂ (λ (w e : ℕ). is_set w (i % 32) implies is_free_entry e) (free-map-at geo image b i (omega (arith, map-covers geo limits))) (entries-at geo image b i l)
 
   -- R3's and R4's tests of a slot, whose own kind says all that they ask
   abbrev pub clean : ℕ → ℕ → Bool
@@ -92,29 +84,10 @@ module _ (geo : Geometry) (image : Image) where
     pub proper-kind : proper b i ≡ not (is_faulty s)
     proper-kind = ap not (faulty-own geo image b i ∙ ap is_faulty kind)
 
--- R7 by what the code reads for it, whatever the kinds of the slots are taken from
-pub record Read7 (geo : Geometry) (image : Image) (b first slots least greatest : ℕ) : Type 0 where
-  pub lowest : first ≡ lowest_free geo image b
-  pub all : slots ≡ d geo
-  pub low : least ≡ least_mapped geo image b
-  pub high : greatest ≡ greatest_mapped geo image b
+  pub clean-test : (b i : ℕ) → (not (is_free (own_slot geo image b i)) || all_ones (contents geo image b i)) ≡ clean b i
+  clean-test b i =
+      either (is_free (own_slot geo image b i)) (all_ones (contents geo image b i))
+      ∙ ap (◌implies all_ones (contents geo image b i)) (sym (free_own geo image b i))
 
-module _
-    {geo : Geometry} {image : Image} {b first slots least greatest : ℕ}
-    (kind : ℕ → ℕ → Slot)
-    (r : Read7 geo image b first slots least greatest)
-  where
-    full-read : full geo image b ≡ eqb first slots
-    full-read = full-first geo image b ∙ sym (ap₂ eqb r.lowest r.all)
-
-    -- a slot is free
-    pub bounds-open : (first ≡ slots → ⊥) → (eqb least ones && eqb greatest ones) ≡ bounds_kept geo image kind b
-    bounds-open other = rw (full-read, ne_eqb first slots other, r.low, r.high)
-
-    -- none is, and the two words are programmed or not
-    pub bounds-full :
-        first ≡ slots →
-        {blank : Bool} →
-        (eqb least ones || eqb greatest ones) ≡ blank →
-        (not blank && none_with geo kind (outside least greatest) b) ≡ bounds_kept geo image kind b
-    bounds-full same e = rw (full-read, eq-eqb first slots same, ← e, r.low, r.high)
+  pub proper-test : (b i : ℕ) → not (is_faulty (own_slot geo image b i)) ≡ proper b i
+  proper-test b i = ap not (sym (faulty-own geo image b i))

@@ -1,228 +1,165 @@
 #![tactic(auto)]
 
-// Each rule of a block by itself, as far as the block alone decides it: R1 to R4, and R7 by the slots' own kinds. And the marks that R5 is
-// checked by: a bit for each number.
-ghost use Rattle.std.specs.Prelude.{Bool, true, not, ◌||◌, ◌≡◌, ℕ, ◌*◌, ◌<◌, eqb, length};
+// Each rule of a block by itself, as far as the block alone decides it: R1 to R4, and R7 whatever the kinds of the slots are taken from. And the
+// set of numbers that R5 is checked by: a bit for each number.
+ghost use Rattle.std.specs.Prelude.{true, not, ◌||◌, ◌≡◌, ℕ, ◌*◌, ◌<◌, eqb, length, replicate};
+ghost use Rattle.bits.specs.Word.{ones};
 ghost use Rattle.geometry.specs.Geometry.{d, sector_words};
-ghost use Rattle.image.specs.Words.{Shaped, least_mapped, greatest_mapped, contents};
-ghost use Rattle.image.specs.Slots.{slot_of, own_slot, is_live_with};
-ghost use Rattle.image.specs.WellFormed.{outside, all_ones, map_agrees, rest_set, none_with, bounds_kept, R1, R2, R3, R4};
+ghost use Rattle.image.specs.Words.{least_mapped, greatest_mapped, contents};
+ghost use Rattle.image.specs.WellFormed.{all_ones, map_agrees, rest_set, bounds_kept, R1, R2, R3, R4};
+ghost use Rattle.image.specs.Views.{of_image, of_block};
 ghost use Rattle.rules.specs.Marks.{mark_words, seen};
 
-use blocks::{erase_count, lowest_free};
-use geometry::Geometry;
+use blocks::is_full;
 use image::Slot;
-use image::slots::own_slot;
+use image::kinds::Kinds;
+use image::view::Block;
 
-// Whether every word of a sector is all ones.
+// Whether every word of a sector is all ones. There is no way out of the loop, so that the compiler takes several words at a time: a check spends
+// its time here (docs/BENCHMARKS.md).
 fn all_ones(sector: &[u32]) -> bool
     requires { length sector.now ≡ sector_words }
     ensures { result ≡ all_ones sector.now }
 {
     let mut all = 0xFFFF_FFFFu32;
-    for j in 0..128 {
-        all = all & sector[j];
+    for &word in sector {
+        all &= word;
     }
     all == 0xFFFF_FFFF
 }
 
 // R1: the erase count is not above the ceiling.
-pub fn rule1(image: &[u32], geo: Geometry, b: usize) -> bool
-    requires shaped { Shaped geo image.now }
-    requires b_lt_blocks { b < geo.blocks }
-    ensures { result ≡ R1 geo image.now b }
+pub fn rule1(block: &Block) -> bool
+    ensures { result ≡ of_block R1 block.now }
 {
-    erase_count(image, geo, b) <= 1_000_000
+    block.erase_count() <= 1_000_000
 }
 
 // R2, of the slots: the map has no bit set for an entry in use.
-fn map_agrees(image: &[u32], geo: Geometry, b: usize) -> bool
-    requires shaped { Shaped geo image.now }
-    requires b_lt_blocks { b < geo.blocks }
-    ensures { result ≡ map_agrees geo image.now b }
+fn map_agrees(block: &Block) -> bool
+    ensures { result ≡ of_block map_agrees block.now }
 {
-    let d = geo.d();
-    let map = geo.map_start(b);
-    let entries = geo.entries_start(b);
-    for i in 0..d {
-        let set = bits::is_set(image[map + i / 32], (i % 32) as u32);
-        let used = image[entries + i] != 0xFFFF_FFFF;
-        if set & used {
-            return false;
-        }
-    }
-    true
+    let map = block.map_words();
+    let entries = block.entries();
+    ranges::all(block.image.geo.d(), |i| {
+        !bits::is_set(map[i / 32], (i % 32) as u32) || entries[i] == 0xFFFF_FFFF
+    })
 }
 
 // R2, of the rest: the map bits that belong to no slot are set.
-pub fn rest_set(image: &[u32], geo: Geometry, b: usize) -> bool
-    requires shaped { Shaped geo image.now }
-    requires b_lt_blocks { b < geo.blocks }
-    ensures { result ≡ rest_set geo image.now b }
+pub fn rest_set(block: &Block) -> bool
+    ensures { result ≡ of_block rest_set block.now }
 {
-    let d = geo.d();
-    let rest = 32 * geo.k() - d;
-    let map = geo.map_start(b);
-    for j in 0..rest {
-        let i = d + j;
-        if !bits::is_set(image[map + i / 32], (i % 32) as u32) {
-            return false;
-        }
-    }
-    true
+    let d = block.image.geo.d();
+    let map = block.map_words();
+    ranges::all(
+        32 * block.image.geo.k() - d,
+        |j| bits::is_set(map[(d + j) / 32], ((d + j) % 32) as u32),
+    )
 }
 
 // R2: both.
-pub fn rule2(image: &[u32], geo: Geometry, b: usize) -> bool
-    requires shaped { Shaped geo image.now }
-    requires b_lt_blocks { b < geo.blocks }
-    ensures { result ≡ R2 geo image.now b }
+pub fn rule2(block: &Block) -> bool
+    ensures { result ≡ of_block R2 block.now }
 {
-    if !map_agrees(image, geo, b) {
-        return false;
-    }
-    rest_set(image, geo, b)
+    map_agrees(block) && rest_set(block)
 }
 
 // Whether all content words of slot i are ones.
-pub fn contents_clean(image: &[u32], geo: Geometry, b: usize, i: usize) -> bool
-    requires shaped { Shaped geo image.now }
-    requires b_lt_blocks { b < geo.blocks }
-    requires i_bound { i < d geo }
-    ensures { result ≡ all_ones (contents geo image.now b i) }
+pub fn contents_clean(block: &Block, i: usize) -> bool
+    requires { i < d block.now.image.geo }
+    ensures { result ≡ all_ones (of_block contents block.now i) }
 {
-    let from = geo.contents_start(b, i);
-    let to = from + 128;
-    all_ones(&image[from..to])
+    all_ones(block.contents(i))
 }
 
 // R3: the contents of every free slot are ones.
-pub fn rule3(image: &[u32], geo: Geometry, b: usize) -> bool
-    requires shaped { Shaped geo image.now }
-    requires b_lt_blocks { b < geo.blocks }
-    ensures { result ≡ R3 geo image.now b }
+pub fn rule3(block: &Block) -> bool
+    ensures { result ≡ of_block R3 block.now }
 {
-    let d = geo.d();
-    for i in 0..d {
-        match own_slot(image, geo, b, i) {
-            Slot::Free => {
-                if !contents_clean(image, geo, b, i) {
-                    return false;
-                }
-            }
-            Slot::Live(_) => {}
-            Slot::Dead => {}
-            Slot::Faulty => {}
-            Slot::Superseded => {}
-        }
-    }
-    true
+    ranges::all(
+        block.image.geo.d(),
+        |i| !matches!(block.own_slot(i), Slot::Free) || contents_clean(block, i),
+    )
 }
 
 // R4: no slot is faulty.
-pub fn rule4(image: &[u32], geo: Geometry, b: usize) -> bool
-    requires shaped { Shaped geo image.now }
-    requires b_lt_blocks { b < geo.blocks }
-    ensures { result ≡ R4 geo image.now b }
+pub fn rule4(block: &Block) -> bool
+    ensures { result ≡ of_block R4 block.now }
 {
-    let d = geo.d();
-    for i in 0..d {
-        match own_slot(image, geo, b, i) {
-            Slot::Faulty => {
-                return false;
-            }
-            Slot::Free => {}
-            Slot::Live(_) => {}
-            Slot::Dead => {}
-            Slot::Superseded => {}
-        }
-    }
-    true
+    ranges::all(
+        block.image.geo.d(),
+        |i| !matches!(block.own_slot(i), Slot::Faulty),
+    )
 }
 
-// Word 1 of block b.
-pub fn least_mapped(image: &[u32], geo: Geometry, b: usize) -> u32
-    requires shaped { Shaped geo image.now }
-    requires b_lt_blocks { b < geo.blocks }
-    ensures { result ≡ least_mapped geo image.now b }
+// Word 1 of a block.
+pub fn least_mapped(block: &Block) -> u32
+    ensures { result ≡ of_block least_mapped block.now }
 {
-    let at = geo.start(b) + 1;
-    image[at]
+    block.image.words[block.image.geo.start(block.index) + 1]
 }
 
-// Word 2 of block b.
-pub fn greatest_mapped(image: &[u32], geo: Geometry, b: usize) -> u32
-    requires shaped { Shaped geo image.now }
-    requires b_lt_blocks { b < geo.blocks }
-    ensures { result ≡ greatest_mapped geo image.now b }
+// Word 2 of a block.
+pub fn greatest_mapped(block: &Block) -> u32
+    ensures { result ≡ of_block greatest_mapped block.now }
 {
-    let at = geo.start(b) + 2;
-    image[at]
+    block.image.words[block.image.geo.start(block.index) + 2]
 }
 
-// Whether the number of an entry, if it is live, lies between two words: its map bit does not matter. There is no branch here and no way out
-// of the loop that calls it, so that the compiler takes several entries at a time.
-fn bounded(logical: u32, entry: u32, least: u32, greatest: u32) -> bool
-    ensures { (set : Bool) → result ≡ not (is_live_with (outside least greatest) (slot_of logical set entry)) }
+// R7, of a block that keeps R2.
+pub fn rule7<K: Kinds>(kinds: &K) -> bool
+    requires { of_block R2 (K.block_of kinds.now) ≡ true }
+    ensures { result ≡ of_image bounds_kept (K.block_of kinds.now).image (K.kind kinds.now) (K.block_of kinds.now).index }
 {
-    let n = entry % 0x2000_0000;
-    let upper = entry / 0x2000_0000;
-    (upper != 6) & (upper != 4) | (logical <= n) | (least <= n) & (n <= greatest)
-}
-
-// Whether the live numbers of block b, by the slots' own kinds, lie between two words.
-fn own_bounded(image: &[u32], geo: Geometry, b: usize, least: u32, greatest: u32) -> bool
-    requires shaped { Shaped geo image.now }
-    requires b_lt_blocks { b < geo.blocks }
-    ensures { result ≡ none_with geo (own_slot geo image.now) (outside least greatest) b }
-{
-    let d = geo.d();
-    let logical = geo.logical;
-    let entries = geo.entries_start(b);
-    let mut inside = true;
-    for i in 0..d {
-        inside = inside & bounded(logical, image[entries + i], least, greatest);
-    }
-    inside
-}
-
-// R7 by the slots' own kinds, of a block that keeps R2.
-pub fn own_rule7(image: &[u32], geo: Geometry, b: usize) -> bool
-    requires shaped { Shaped geo image.now }
-    requires b_lt_blocks { b < geo.blocks }
-    requires b_value { R2 geo image.now b ≡ true }
-    ensures { result ≡ bounds_kept geo image.now (own_slot geo image.now) b }
-{
-    let least = least_mapped(image, geo, b);
-    let greatest = greatest_mapped(image, geo, b);
-    if lowest_free(image, geo, b) != geo.d() {
+    let block = kinds.block();
+    let least = least_mapped(&block);
+    let greatest = greatest_mapped(&block);
+    if !is_full(&block) {
         return (least == 0xFFFF_FFFF) & (greatest == 0xFFFF_FFFF);
     }
     if (least == 0xFFFF_FFFF) | (greatest == 0xFFFF_FFFF) {
         return false;
     }
-    own_bounded(image, geo, b, least, greatest)
+    kinds.live_between(least, greatest)
 }
 
-// Marks the number n. Whether it was not marked before.
-pub fn mark(marks: &mut [u32], n: u32) -> bool
-    requires marks_len { length marks.old ≡ mark_words }
-    requires n_bound { n < 32 * mark_words }
-    ensures value { result ≡ not (seen marks.old n) }
-    ensures by_index { (m : ℕ) → seen marks.new m ≡ (seen marks.old m || eqb n m) }
-{
-    let at = (n / 32) as usize;
-    let new = bits::is_set(marks[at], n % 32);
-    marks[at] = bits::clear_bit(marks[at], n % 32);
-    new
+// A set of the numbers that there can be: the bit of each is clear once it was marked.
+#[derive(Drop)]
+pub struct NumberSet {
+    pub words: [u32; 124],
 }
 
-// Whether the number n is marked.
-pub fn is_marked(marks: &[u32], n: u32) -> bool
-    requires marks_len { length marks.now ≡ mark_words }
-    requires n_bound { n < 32 * mark_words }
-    ensures { result ≡ seen marks.now n }
-{
-    let at = (n / 32) as usize;
-    !bits::is_set(marks[at], n % 32)
+impl NumberSet {
+    // No number was marked. (In the caller's own place, and not copied there: the stack of a check is narrow.)
+    #[inline(always)]
+    pub fn new() -> Self
+        ensures { result.words ≡ replicate mark_words ones }
+    {
+        NumberSet {
+            words: [0xFFFF_FFFF; 124],
+        }
+    }
+
+    // Marks the number n. Whether it was not marked before.
+    pub fn mark(&mut self, n: u32) -> bool
+        requires { n < 32 * mark_words }
+        ensures value { result ≡ not (seen self.old.words n) }
+        ensures by_index { (m : ℕ) → seen self.new.words m ≡ (seen self.old.words m || eqb n m) }
+        ensures long { length self.new.words ≡ mark_words }
+    {
+        let at = (n / 32) as usize;
+        let new = bits::is_set(self.words[at], n % 32);
+        self.words[at] = bits::clear_bit(self.words[at], n % 32);
+        new
+    }
+
+    // Whether the number n is marked.
+    pub fn is_marked(&self, n: u32) -> bool
+        requires { n < 32 * mark_words }
+        ensures { result ≡ seen self.now.words n }
+    {
+        let at = (n / 32) as usize;
+        !bits::is_set(self.words[at], n % 32)
+    }
 }

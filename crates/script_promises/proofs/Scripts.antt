@@ -9,15 +9,15 @@ use native.Mathlib.Omega.{arith}
 use borrow.Author.Tests.{eq-eqb, ne_eqb}
 use lib.Dec.{eqb}
 use lib.ListN.{length}
+use Rattle.std.specs.Prelude.{Err}
 use Rattle.ranges.specs.Range.{one_if}
 use Rattle.ranges.proofs.Tests.{both-pass}
 use Rattle.geometry.specs.declared.Geometry.{Geometry}
 use Rattle.geometry.specs.Geometry.{filled, image_length, Limits}
 use Rattle.geometry.proofs.Laws.{limits-pass}
 use Rattle.image.specs.Words.{Image}
-use Rattle.answers.specs.declared.Answer.{Answer}
-use Rattle.answers.specs.declared.Answer.TheVariants.{Accepted, BadGeometry}
-use Rattle.answers.specs.Answers.{number_of, if_accepted}
+use Rattle.answers.specs.declared.Refusal.TheVariants.{BadGeometry}
+use Rattle.answers.specs.Answers.{Answer, Accepted, number_of, if_accepted}
 use Rattle.answers.proofs.Acceptance.{accepted-number, if-accepted, if-refused, accepted?}
 use Rattle.calls.specs.Refusals.{row1, format_answer, check_answer, write_answer}
 use Rattle.calls.specs.Calls.{fresh, formatted, written, released, totals_of, no_totals, reported}
@@ -230,7 +230,7 @@ refused-with-1 : (geo : Geometry) (image : Image) → number_of (format_answer g
 unfolding format_answer
 refused-with-1 geo image = go (row1 geo image).applies
   where
-    go : (b : Bool) → number_of (cond b BadGeometry Accepted) ≢ 0 → number_of (cond b BadGeometry Accepted) ≡ 1
+    go : (b : Bool) → number_of (cond b (Err BadGeometry) Accepted) ≢ 0 → number_of (cond b (Err BadGeometry) Accepted) ≡ 1
     go true n = refl
     go false n = absurd (n refl)
 

@@ -28,7 +28,7 @@ printed_from s input =
     texts (lines_of s records) ++ (cut ++ last_text end.image end.logical)
 
 -- What comes out where the input is handed on as in script/src/main.rt, in so many turns at most: 12 bytes at a time go to `text::reply`, until fewer
--- came; then `text::last` is asked. (The program lends 12 bytes each time; where fewer came, `reply` looks at none of them.)
+-- came; then `text::last` is asked.
 unfoldable pub handed_on : ℕ → Script → List ℕ → List ℕ
 handed_on zero s input = last_text s.image s.logical
 handed_on (suc turns) s input =

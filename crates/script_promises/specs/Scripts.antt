@@ -6,7 +6,7 @@ use Rattle.ranges.specs.Range.{one_if}
 use Rattle.geometry.specs.declared.Geometry.{Geometry}
 use Rattle.geometry.specs.Geometry.{d, g, image_length}
 use Rattle.image.specs.Words.{Image}
-use Rattle.answers.specs.declared.Answer.TheVariants.{Accepted}
+use Rattle.answers.specs.Answers.{Accepted}
 use Rattle.calls.specs.Refusals.{check_answer}
 use Rattle.calls.specs.Calls.{fresh}
 use Rattle.records.specs.declared.Line.{Line}

@@ -2,6 +2,7 @@
 
 // What the archive for C exports: each function of `shellwaltz_c`, under its name and with its contract, as a call of that. A crate is a library or a
 // static library, and `shellwaltz_c` is the library: theorems and other crates name its contracts. tools/build-archive makes the archive of this one.
+// (So each export stands in both crates, with one parameter list and contract: tests/every-contract compares them.)
 ghost use Rattle.std.specs.Prelude.{◌≡◌};
 ghost use Rattle.geometry.specs.Geometry.{shape};
 ghost use Rattle.answers.specs.Answers.{number_of, block_of, rule_of};

@@ -3,23 +3,26 @@
 use mathlib.Core.Path.{◌≡◌, refl, sym, ap, ◌∙◌}
 use mathlib.Core.Bool.{Bool, true, false}
 use mathlib.Core.List.{List, []}
+use mathlib.Core.Logic.{◌≢◌}
 use Prim.Native.Nat.{ℕ, ◌<◌}
 use native.Mathlib.Decide.{dec_lt}
 use native.Mathlib.Omega.{arith}
 use lib.Seq.{take-nil}
+use Rattle.std.specs.Prelude.{Result, Ok, Err}
 use Rattle.geometry.specs.declared.Geometry.{Geometry}
 use Rattle.geometry.specs.Geometry.{shape, within_limits, Limits}
 use Rattle.geometry.proofs.Laws.{limits-hold}
 use Rattle.image.specs.Words.{Image}
 use Rattle.tables.specs.Tables.{Table}
 use Rattle.flash.specs.declared.Step.{Step}
+use Rattle.flash.specs.declared.NextStep.{NextStep}
 use Rattle.flash.specs.declared.NextStep.TheVariants.{Done}
 use Rattle.flash.specs.Steps.{words_in, erasures_in, step_at}
 use Rattle.flash.proofs.Stores.{run_none}
-use Rattle.answers.specs.declared.Answer.{Answer}
-use Rattle.answers.specs.declared.Answer.TheVariants.{BadGeometry}
-use Rattle.answers.specs.Answers.{number_of, block_of, rule_of}
-use Rattle.calls.specs.declared.Outcome.{Outcome}
+use Rattle.answers.specs.declared.Refusal.{Refusal}
+use Rattle.answers.specs.declared.Refusal.TheVariants.{BadGeometry}
+use Rattle.answers.specs.Answers.{Answer, Accepted, answer_of}
+use Rattle.answers.proofs.Acceptance.{if-refused, of-answered, not-accepted}
 use Rattle.calls.specs.Refusals.{format_answer, check_answer, read_answer, write_answer, release_answer, repair_answer}
 use Rattle.calls.specs.Calls.{
   format_outcome,
@@ -44,12 +47,11 @@ use Rattle.calls.specs.Calls.{
   repair_first_outcome,
   repaired_first,
 }
-use Rattle.stepwise.specs.declared.Stepped.{Stepped}
-use Rattle.stepwise.specs.Calls.{write_step, release_step, repair_step}
+use Rattle.stepwise.specs.Calls.{Stepped, step_of, write_step, release_step, repair_step}
 use Rattle.tabled.specs.Refusals.{build_answer, read_answer_with, write_answer_with, release_answer_with}
 use Rattle.tabled.specs.Calls.{table_built, read_buffer_with, write_steps_with, write_outcome_with, written_with, write_table, release_steps_with, release_outcome_with, released_with, release_table}
 use Rattle.shellwaltz_c.specs.Plain.{narrowed}
-use Rattle.shellwaltz_c.specs.Told.{kind_of, place_of, word_of}
+use Rattle.shellwaltz_c.specs.Told.{next_of}
 
 -- where one limit is broken, the test of all fails
 outside : (geo : Geometry) → (Limits geo → ⊥) → within_limits geo ≡ false
@@ -85,17 +87,17 @@ module _ {geo : Geometry} (b s l : ℕ) (e : geo ≡ shape (narrowed b) (narrowe
   pub format-same : (format_outcome geo image ≡ format_outcome (shape b s l) image) × (formatted geo image ≡ formatted (shape b s l) image)
   unfolding format_answer formatted words_in erasures_in
   format-same = (
-    narrowing (λ x. format_outcome x image) (outcome BadGeometry []) (λ x out. rw out) b s l e,
+    narrowing (λ x. format_outcome x image) (outcome (Err BadGeometry) []) (λ x out. rw out) b s l e,
     narrowing (λ x. formatted x image) image (λ x out. rw out) b s l e,
   )
 
   pub check-same : check_answer geo image ≡ check_answer (shape b s l) image
   unfolding check_answer
-  check-same = narrowing (λ x. check_answer x image) BadGeometry (λ x out. rw out) b s l e
+  check-same = narrowing (λ x. check_answer x image) (Err BadGeometry) (λ x out. rw out) b s l e
 
   pub report-same : reported geo image ≡ reported (shape b s l) image
   unfolding check_answer reported
-  report-same = narrowing (λ x. reported x image) (no_totals BadGeometry) (λ x out. rw out) b s l e
+  report-same = narrowing (λ x. reported x image) (no_totals (Err BadGeometry)) (λ x out. rw out) b s l e
 
   pub read_same :
       (n : ℕ) (buffer : List ℕ) →
@@ -103,7 +105,7 @@ module _ {geo : Geometry} (b s l : ℕ) (e : geo ≡ shape (narrowed b) (narrowe
       × (read_buffer geo image n buffer ≡ read_buffer (shape b s l) image n buffer)
   unfolding read_answer read_buffer
   read_same n buffer = (
-    narrowing (λ x. read_answer x image n buffer) BadGeometry (λ x out. rw out) b s l e,
+    narrowing (λ x. read_answer x image n buffer) (Err BadGeometry) (λ x out. rw out) b s l e,
     narrowing (λ x. read_buffer x image n buffer) buffer (λ x out. rw out) b s l e,
   )
 
@@ -113,7 +115,7 @@ module _ {geo : Geometry} (b s l : ℕ) (e : geo ≡ shape (narrowed b) (narrowe
       × (written geo image n buffer ≡ written (shape b s l) image n buffer)
   unfolding write_answer write_steps
   write_same n buffer = (
-    narrowing (λ x. write_outcome x image n buffer) (outcome BadGeometry []) (λ x out. rw out) b s l e,
+    narrowing (λ x. write_outcome x image n buffer) (outcome (Err BadGeometry) []) (λ x out. rw out) b s l e,
     narrowing (λ x. written x image n buffer) image (λ x out. rw out (run_none x image)) b s l e,
   )
 
@@ -122,14 +124,14 @@ module _ {geo : Geometry} (b s l : ℕ) (e : geo ≡ shape (narrowed b) (narrowe
       (release_outcome geo image n ≡ release_outcome (shape b s l) image n) × (released geo image n ≡ released (shape b s l) image n)
   unfolding release_answer release_steps
   release-same n = (
-    narrowing (λ x. release_outcome x image n) (outcome BadGeometry []) (λ x out. rw out) b s l e,
+    narrowing (λ x. release_outcome x image n) (outcome (Err BadGeometry) []) (λ x out. rw out) b s l e,
     narrowing (λ x. released x image n) image (λ x out. rw out (run_none x image)) b s l e,
   )
 
   pub repair-same : (repair_outcome geo image ≡ repair_outcome (shape b s l) image) × (repaired geo image ≡ repaired (shape b s l) image)
   unfolding repair_answer repair_steps
   repair-same = (
-    narrowing (λ x. repair_outcome x image) (outcome BadGeometry []) (λ x out. rw out) b s l e,
+    narrowing (λ x. repair_outcome x image) (outcome (Err BadGeometry) []) (λ x out. rw out) b s l e,
     narrowing (λ x. repaired x image) image (λ x out. rw out (run_none x image)) b s l e,
   )
 
@@ -140,7 +142,7 @@ module _ {geo : Geometry} (b s l : ℕ) (e : geo ≡ shape (narrowed b) (narrowe
       (build_answer geo image table ≡ build_answer (shape b s l) image table) × (table_built geo image table ≡ table_built (shape b s l) image table)
   unfolding build_answer table_built
   build-same table = (
-    narrowing (λ x. build_answer x image table) BadGeometry (λ x out. rw out) b s l e,
+    narrowing (λ x. build_answer x image table) (Err BadGeometry) (λ x out. rw out) b s l e,
     narrowing (λ x. table_built x image table) table (λ x out. rw out) b s l e,
   )
 
@@ -150,7 +152,7 @@ module _ {geo : Geometry} (b s l : ℕ) (e : geo ≡ shape (narrowed b) (narrowe
       × (read_buffer_with geo image n buffer table ≡ read_buffer_with (shape b s l) image n buffer table)
   unfolding read_answer_with read_buffer_with
   read-with-same n buffer table = (
-    narrowing (λ x. read_answer_with x image n buffer table) BadGeometry (λ x out. rw out) b s l e,
+    narrowing (λ x. read_answer_with x image n buffer table) (Err BadGeometry) (λ x out. rw out) b s l e,
     narrowing (λ x. read_buffer_with x image n buffer table) buffer (λ x out. rw out) b s l e,
   )
 
@@ -161,7 +163,7 @@ module _ {geo : Geometry} (b s l : ℕ) (e : geo ≡ shape (narrowed b) (narrowe
       × (write_table geo image n buffer table ≡ write_table (shape b s l) image n buffer table))
   unfolding write_answer_with write_steps_with write_table
   write-with-same n buffer table = (
-    narrowing (λ x. write_outcome_with x image n buffer table) (outcome BadGeometry []) (λ x out. rw out) b s l e,
+    narrowing (λ x. write_outcome_with x image n buffer table) (outcome (Err BadGeometry) []) (λ x out. rw out) b s l e,
     (
       narrowing (λ x. written_with x image n buffer table) image (λ x out. rw out (run_none x image)) b s l e,
       narrowing (λ x. write_table x image n buffer table) table (λ x out. rw out) b s l e,
@@ -175,7 +177,7 @@ module _ {geo : Geometry} (b s l : ℕ) (e : geo ≡ shape (narrowed b) (narrowe
       × (release_table geo image n table ≡ release_table (shape b s l) image n table))
   unfolding release_answer_with release_steps_with release_table
   release-with-same n table = (
-    narrowing (λ x. release_outcome_with x image n table) (outcome BadGeometry []) (λ x out. rw out) b s l e,
+    narrowing (λ x. release_outcome_with x image n table) (outcome (Err BadGeometry) []) (λ x out. rw out) b s l e,
     (
       narrowing (λ x. released_with x image n table) image (λ x out. rw out (run_none x image)) b s l e,
       narrowing (λ x. release_table x image n table) table (λ x out. rw out) b s l e,
@@ -186,15 +188,15 @@ module _ {geo : Geometry} (b s l : ℕ) (e : geo ≡ shape (narrowed b) (narrowe
 module _ {geo : Geometry} (b s l : ℕ) (e : geo ≡ shape (narrowed b) (narrowed s) l) (image : Image) where
   pub write-step-same : (n : ℕ) (buffer : List ℕ) (i : ℕ) → write_step geo image n buffer i ≡ write_step (shape b s l) image n buffer i
   unfolding write_answer write_steps step_at
-  write-step-same n buffer i = narrowing (λ x. write_step x image n buffer i) (record { answer = BadGeometry; next = Done }) (λ x out. rw out) b s l e
+  write-step-same n buffer i = narrowing (λ x. write_step x image n buffer i) (record { answer = Err BadGeometry; next = Done }) (λ x out. rw out) b s l e
 
   pub release-step-same : (n i : ℕ) → release_step geo image n i ≡ release_step (shape b s l) image n i
   unfolding release_answer release_steps step_at
-  release-step-same n i = narrowing (λ x. release_step x image n i) (record { answer = BadGeometry; next = Done }) (λ x out. rw out) b s l e
+  release-step-same n i = narrowing (λ x. release_step x image n i) (record { answer = Err BadGeometry; next = Done }) (λ x out. rw out) b s l e
 
   pub repair-step-same : (i : ℕ) → repair_step geo image i ≡ repair_step (shape b s l) image i
   unfolding repair_answer repair_steps step_at
-  repair-step-same i = narrowing (λ x. repair_step x image i) (record { answer = BadGeometry; next = Done }) (λ x out. rw out) b s l e
+  repair-step-same i = narrowing (λ x. repair_step x image i) (record { answer = Err BadGeometry; next = Done }) (λ x out. rw out) b s l e
 
   pub write-first-same :
       (n : ℕ) (buffer : List ℕ) (j : ℕ) →
@@ -202,7 +204,7 @@ module _ {geo : Geometry} (b s l : ℕ) (e : geo ≡ shape (narrowed b) (narrowe
       × (written_first geo image n buffer j ≡ written_first (shape b s l) image n buffer j)
   unfolding write_answer write_steps
   write-first-same n buffer j = (
-    narrowing (λ x. write_first_outcome x image n buffer j) (outcome BadGeometry []) (λ x out. rw (out, take-nil {A = Step} j)) b s l e,
+    narrowing (λ x. write_first_outcome x image n buffer j) (outcome (Err BadGeometry) []) (λ x out. rw (out, take-nil {A = Step} j)) b s l e,
     narrowing (λ x. written_first x image n buffer j) image (λ x out. rw (out, take-nil {A = Step} j) (run_none x image)) b s l e,
   )
 
@@ -212,7 +214,7 @@ module _ {geo : Geometry} (b s l : ℕ) (e : geo ≡ shape (narrowed b) (narrowe
       × (released_first geo image n j ≡ released_first (shape b s l) image n j)
   unfolding release_answer release_steps
   release-first-same n j = (
-    narrowing (λ x. release_first_outcome x image n j) (outcome BadGeometry []) (λ x out. rw (out, take-nil {A = Step} j)) b s l e,
+    narrowing (λ x. release_first_outcome x image n j) (outcome (Err BadGeometry) []) (λ x out. rw (out, take-nil {A = Step} j)) b s l e,
     narrowing (λ x. released_first x image n j) image (λ x out. rw (out, take-nil {A = Step} j) (run_none x image)) b s l e,
   )
 
@@ -221,80 +223,28 @@ module _ {geo : Geometry} (b s l : ℕ) (e : geo ≡ shape (narrowed b) (narrowe
       (repair_first_outcome geo image j ≡ repair_first_outcome (shape b s l) image j) × (repaired_first geo image j ≡ repaired_first (shape b s l) image j)
   unfolding repair_answer repair_steps
   repair-first-same j = (
-    narrowing (λ x. repair_first_outcome x image j) (outcome BadGeometry []) (λ x out. rw (out, take-nil {A = Step} j)) b s l e,
+    narrowing (λ x. repair_first_outcome x image j) (outcome (Err BadGeometry) []) (λ x out. rw (out, take-nil {A = Step} j)) b s l e,
     narrowing (λ x. repaired_first x image j) image (λ x out. rw (out, take-nil {A = Step} j) (run_none x image)) b s l e,
   )
 
--- what a call gave, and what it gives for the numbers handed in: the answer by its number, the image, and the two counts
-pub parts :
-    {number : ℕ} {gave passed says : Outcome} {left passes leaves : Image} →
-    number ≡ number_of gave.answer →
-    (gave ≡ passed) × (left ≡ passes) →
-    (passed ≡ says) × (passes ≡ leaves) →
-    (number ≡ number_of says.answer) × ((left ≡ leaves) × ((gave.words ≡ says.words) × (gave.erasures ≡ says.erasures)))
-parts is_number (gives, leaves-it) (same, same-image) = (
-  is_number ∙ ap (λ o. number_of o.answer) (gives ∙ same),
-  (leaves-it ∙ same-image, (ap (λ o. o.words) (gives ∙ same), ap (λ o. o.erasures) (gives ∙ same))),
-)
+-- ---- a refused call does no step
+module _ (geo : Geometry) (image : Image) where
+  pub refused-write-with : (n : ℕ) (buffer : List ℕ) (table : Table) → write_answer_with geo image n buffer table ≢ Accepted → write_steps_with geo image n buffer table ≡ []
+  unfolding write_steps_with
+  refused-write-with n buffer table refused = if-refused _ _ _ refused
 
--- the pair that an answer names, and the one that it names for the numbers handed in
-pub names : {block rule : ℕ} {gave says : Answer} → block ≡ block_of gave → rule ≡ rule_of gave → gave ≡ says → (block ≡ block_of says) × (rule ≡ rule_of says)
-names is_Block is-rule same = (is_Block ∙ ap block_of same, is-rule ∙ ap rule_of same)
+  pub refused-release-with : (n : ℕ) (table : Table) → release_answer_with geo image n table ≢ Accepted → release_steps_with geo image n table ≡ []
+  unfolding release_steps_with
+  refused-release-with n table refused = if-refused _ _ _ refused
 
--- the parts of a write, a release or a repair, and the pair
-pub parts-and-pair :
-    {number block rule : ℕ} {gave passed says : Outcome} {left passes leaves : Image} →
-    number ≡ number_of gave.answer →
-    block ≡ block_of gave.answer →
-    rule ≡ rule_of gave.answer →
-    (gave ≡ passed) × (left ≡ passes) →
-    (passed ≡ says) × (passes ≡ leaves) →
-    (number ≡ number_of says.answer)
-    × ((left ≡ leaves)
-    × ((gave.words ≡ says.words)
-    × ((gave.erasures ≡ says.erasures) × ((block ≡ block_of says.answer) × (rule ≡ rule_of says.answer)))))
-parts-and-pair is_number is_Block is-rule gives same =
-    let (number, (left, (words, erasures))) = parts is_number gives same in
-    (number, (left, (words, (erasures, names is_Block is-rule (ap (λ o. o.answer) (gives.0 ∙ same.0))))))
+pub no-step : {answer : Answer} {steps : List Step} (i : ℕ) → (answer ≢ Accepted → steps ≡ []) → answer ≢ Accepted → step_at steps i ≡ Done
+unfolding step_at
+no-step i none refused = rw (none refused)
 
--- the same where a table was lent
-pub parts-and-table :
-    {number block rule : ℕ} {gave passed says : Outcome} {left passes leaves : Image} {noted told tells : Table} →
-    number ≡ number_of gave.answer →
-    block ≡ block_of gave.answer →
-    rule ≡ rule_of gave.answer →
-    (gave ≡ passed) × ((left ≡ passes) × (noted ≡ told)) →
-    (passed ≡ says) × ((passes ≡ leaves) × (told ≡ tells)) →
-    (number ≡ number_of says.answer)
-    × ((left ≡ leaves)
-    × ((noted ≡ tells)
-    × ((gave.words ≡ says.words)
-    × ((gave.erasures ≡ says.erasures) × ((block ≡ block_of says.answer) × (rule ≡ rule_of says.answer))))))
-parts-and-table is_number is_Block is-rule (gives, (leaves-it, notes-it)) (same, (same-image, same-table)) =
-    let (number, (left, rest)) = parts-and-pair is_number is_Block is-rule (gives, leaves-it) (same, same-image) in
-    (number, (left, (notes-it ∙ same-table, rest)))
-
--- the parts of one step of a write, a release or a repair, and the pair
-pub step-and-pair :
-    {number kind place word block rule : ℕ} {gave says : Stepped} →
-    number ≡ number_of gave.answer →
-    kind ≡ kind_of gave.next →
-    place ≡ place_of gave.next →
-    word ≡ word_of gave.next →
-    block ≡ block_of gave.answer →
-    rule ≡ rule_of gave.answer →
-    gave ≡ says →
-    (number ≡ number_of says.answer)
-    × ((kind ≡ kind_of says.next)
-    × ((place ≡ place_of says.next)
-    × ((word ≡ word_of says.next) × ((block ≡ block_of says.answer) × (rule ≡ rule_of says.answer)))))
-step-and-pair is_number is-kind is-place is_IsWord is_Block is-rule same = (
-  is_number ∙ ap (λ t. number_of t.answer) same,
-  (
-    is-kind ∙ ap (λ t. kind_of t.next) same,
-    (
-      is-place ∙ ap (λ t. place_of t.next) same,
-      (is_IsWord ∙ ap (λ t. word_of t.next) same, names is_Block is-rule (ap (λ t. t.answer) same)),
-    ),
-  ),
-)
+-- so what a call for one step gives says its answer and its step
+pub step-told : (says : Stepped) {told : Result NextStep Refusal} → told ≡ step_of says → (says.answer ≢ Accepted → says.next ≡ Done) → (answer_of told ≡ says.answer) × (next_of told ≡ says.next)
+step-told says e none = (ap answer_of e ∙ of-answered says.answer says.next, ap next_of e ∙ go says.answer none)
+  where
+    go : (a : Answer) → (a ≢ Accepted → says.next ≡ Done) → next_of (step_of (record { answer = a; next = says.next })) ≡ says.next
+    go (Ok u) h = refl
+    go (Err why) h = sym (h (not-accepted refl))

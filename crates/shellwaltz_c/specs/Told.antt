@@ -1,5 +1,6 @@
 -- What a C program is told of a step (K4): three numbers for each case.
-use Rattle.std.specs.Prelude.{ℕ}
+use Rattle.std.specs.Prelude.{ℕ, Result, Ok, Err}
+use Rattle.answers.specs.declared.Refusal.{Refusal}
 use Rattle.flash.specs.declared.Step.TheVariants.{Program, Erase}
 use Rattle.flash.specs.declared.NextStep.{NextStep}
 use Rattle.flash.specs.declared.NextStep.TheVariants.{Next, Done}
@@ -21,3 +22,8 @@ abbrev pub word_of : NextStep → ℕ
 word_of Done = 0
 word_of (Next (Program p w)) = w
 word_of (Next (Erase b)) = 0
+
+-- the step that a call for one gave: a refused one has none
+abbrev pub next_of : Result NextStep Refusal → NextStep
+next_of (Ok next) = next
+next_of (Err why) = Done

@@ -1,51 +1,41 @@
-// A write, a release and a repair step by step (K4) for C: a step is its kind, its place and its word, each through a pointer.
+// A write, a release and a repair step by step (K4) for C: a step is its kind, its place and its word, each through a pointer, as
+// include/shellwaltz.h has them.
 ghost use Rattle.std.specs.Prelude.{◌≡◌};
 ghost use Rattle.geometry.specs.Geometry.{shape};
 ghost use Rattle.answers.specs.Answers.{number_of, block_of, rule_of};
+ghost use Rattle.answers.specs.Answers.{answer_of};
 ghost use Rattle.calls.specs.Calls.{write_first_outcome, written_first, release_first_outcome, released_first, repair_first_outcome, repaired_first};
 ghost use Rattle.stepwise.specs.Calls.{write_step, release_step, repair_step};
 ghost use Rattle.shellwaltz_c.specs.Told.{kind_of, place_of, word_of};
+ghost use Rattle.shellwaltz_c.specs.Told.{next_of};
 
-use super::geometry;
+use super::{answer_of, geometry, tell, tell_counts};
+use answers::Refusal;
 use flash::{NextStep, Step};
 
-// The number of a step's kind.
-fn kind_of(next: NextStep) -> u32
-    ensures { result ≡ kind_of next }
+// Tells what a call for one step gave: the kind of the step, its place or its block, and its word, all 0 where there is none; and its answer. (The
+// kinds are 0, 1 and 2 for C, as the header names them.)
+fn tell_step(
+    told: Result<NextStep, Refusal>,
+    kind: &mut u32,
+    place: &mut usize,
+    word: &mut u32,
+    bad_block: &mut u32,
+    bad_rule: &mut u32,
+) -> u32
+    ensures value { result ≡ number_of (answer_of told) }
+    ensures kind_after { kind.new ≡ kind_of (next_of told) }
+    ensures place_after { place.new ≡ place_of (next_of told) }
+    ensures word_after { word.new ≡ word_of (next_of told) }
+    ensures bad_block_after { bad_block.new ≡ block_of (answer_of told) }
+    ensures bad_rule_after { bad_rule.new ≡ rule_of (answer_of told) }
 {
-    match next {
-        NextStep::Next(step) => match step {
-            Step::Program(_, _) => 1,
-            Step::Erase(_) => 2,
-        },
-        NextStep::Done => 0,
-    }
-}
-
-// The place of its word, or its block.
-fn place_of(next: NextStep) -> usize
-    ensures { result ≡ place_of next }
-{
-    match next {
-        NextStep::Next(step) => match step {
-            Step::Program(place, _) => place,
-            Step::Erase(block) => block,
-        },
-        NextStep::Done => 0,
-    }
-}
-
-// The word that it programs.
-fn word_of(next: NextStep) -> u32
-    ensures { result ≡ word_of next }
-{
-    match next {
-        NextStep::Next(step) => match step {
-            Step::Program(_, word) => word,
-            Step::Erase(_) => 0,
-        },
-        NextStep::Done => 0,
-    }
+    (*kind, *place, *word) = match told {
+        Ok(NextStep::Next(Step::Program(place, word))) => (1, place, word),
+        Ok(NextStep::Next(Step::Erase(block))) => (2, block, 0),
+        Ok(NextStep::Done) | Err(_) => (0, 0, 0),
+    };
+    tell(answer_of(told), bad_block, bad_rule)
 }
 
 // Step `step`, from 0, of the write of the buffer as a sector. Refuses 1, 2, 3, 4 and 6.
@@ -73,14 +63,7 @@ pub extern "C" fn shellwaltz_write_step(
 {
     let geo = geometry(blocks, sectors, logical);
     let told = stepwise::write_step(image, geo, number, buffer, step);
-    let next = told.next;
-    *kind = kind_of(next);
-    *place = place_of(next);
-    *word = word_of(next);
-    let answer = told.answer;
-    *bad_block = answers::bad_block(answer);
-    *bad_rule = answers::bad_rule(answer);
-    answers::number(answer)
+    tell_step(told, kind, place, word, bad_block, bad_rule)
 }
 
 // Step `step`, from 0, of the release of a sector. Refuses 1, 3, 4 and 5.
@@ -107,14 +90,7 @@ pub extern "C" fn shellwaltz_release_step(
 {
     let geo = geometry(blocks, sectors, logical);
     let told = stepwise::release_step(image, geo, number, step);
-    let next = told.next;
-    *kind = kind_of(next);
-    *place = place_of(next);
-    *word = word_of(next);
-    let answer = told.answer;
-    *bad_block = answers::bad_block(answer);
-    *bad_rule = answers::bad_rule(answer);
-    answers::number(answer)
+    tell_step(told, kind, place, word, bad_block, bad_rule)
 }
 
 // Step `step`, from 0, of a repair. Refuses 1, 4, 10 and 6.
@@ -140,14 +116,7 @@ pub extern "C" fn shellwaltz_repair_step(
 {
     let geo = geometry(blocks, sectors, logical);
     let told = stepwise::repair_step(image, geo, step);
-    let next = told.next;
-    *kind = kind_of(next);
-    *place = place_of(next);
-    *word = word_of(next);
-    let answer = told.answer;
-    *bad_block = answers::bad_block(answer);
-    *bad_rule = answers::bad_rule(answer);
-    answers::number(answer)
+    tell_step(told, kind, place, word, bad_block, bad_rule)
 }
 
 // The first `most` steps of that write, or all where there are fewer. Refuses 1, 2, 3, 4 and 6.
@@ -174,12 +143,7 @@ pub extern "C" fn shellwaltz_write_first(
 {
     let geo = geometry(blocks, sectors, logical);
     let wrote = stepwise::write_first(image, geo, number, buffer, most);
-    *words = wrote.words;
-    *erasures = wrote.erasures;
-    let answer = wrote.answer;
-    *bad_block = answers::bad_block(answer);
-    *bad_rule = answers::bad_rule(answer);
-    answers::number(answer)
+    tell_counts(wrote, words, erasures, bad_block, bad_rule)
 }
 
 // The first `most` steps of that release, likewise. Refuses 1, 3, 4 and 5.
@@ -205,12 +169,7 @@ pub extern "C" fn shellwaltz_release_first(
 {
     let geo = geometry(blocks, sectors, logical);
     let freed = stepwise::release_first(image, geo, number, most);
-    *words = freed.words;
-    *erasures = freed.erasures;
-    let answer = freed.answer;
-    *bad_block = answers::bad_block(answer);
-    *bad_rule = answers::bad_rule(answer);
-    answers::number(answer)
+    tell_counts(freed, words, erasures, bad_block, bad_rule)
 }
 
 // The first `most` steps of a repair, or all where there are fewer. Refuses 1, 4, 10 and 6.
@@ -235,10 +194,5 @@ pub extern "C" fn shellwaltz_repair_first(
 {
     let geo = geometry(blocks, sectors, logical);
     let mended = stepwise::repair_first(image, geo, most);
-    *words = mended.words;
-    *erasures = mended.erasures;
-    let answer = mended.answer;
-    *bad_block = answers::bad_block(answer);
-    *bad_rule = answers::bad_rule(answer);
-    answers::number(answer)
+    tell_counts(mended, words, erasures, bad_block, bad_rule)
 }

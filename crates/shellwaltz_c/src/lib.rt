@@ -3,23 +3,33 @@
 // The calls for C: plain numbers, an image or a buffer as a pointer and a length in words, counts and the bad block and rule (K1) through
 // pointers, and the answer's number in the table of refusals (FORMAT.md, Refusals). include/shellwaltz.h is their header. Each contract is
 // that of the call it passes on to, for any three 32-bit numbers as geometry.
+// (The numbers of a geometry, the bad pair, the counts and the parts of a step stay parameters of their own: the header's functions have them so.)
 ghost use Rattle.std.specs.Prelude.{◌≡◌};
 ghost use Rattle.geometry.specs.Geometry.{shape};
 ghost use Rattle.answers.specs.Answers.{number_of, block_of, rule_of};
+ghost use Rattle.answers.specs.Answers.{answer_of};
 ghost use Rattle.calls.specs.Refusals.{check_answer, read_answer};
+ghost use Rattle.calls.specs.Outcomes.{outcome_of, totals_of_sums};
 ghost use Rattle.calls.specs.Calls.{formatted, format_outcome, reported, read_buffer, write_outcome, written, release_outcome, released, repair_outcome, repaired};
 ghost use Rattle.shellwaltz_c.specs.Plain.{narrowed};
 
+use answers::{Answer, Refusal};
+use calls::{Counts, Totals};
 use geometry::Geometry;
 
 pub mod by_steps;
 pub mod with_table;
 
-// A number of blocks or sectors in 16 bits: one that does not fit becomes the greatest that does, which breaks its limit as well.
+// A number of blocks or sectors in 16 bits: one that does not fit becomes the greatest that does, which breaks its limit as well. (A cast here and a
+// `match` below, and not methods of std: no public call stands on a function of std, since `determined` proves of each (`runs`) that an environment
+// has its code, and std's tables cannot be named.)
 fn narrow(x: u32) -> u16
     ensures { result ≡ narrowed x }
 {
-    if x < 65536 { x as u16 } else { 65535 }
+    if x > u16::MAX as u32 {
+        return u16::MAX;
+    }
+    x as u16
 }
 
 // The geometry that the Rattle calls take.
@@ -31,6 +41,73 @@ fn geometry(blocks: u32, sectors: u32, logical: u32) -> Geometry
         sectors: narrow(sectors),
         logical,
     }
+}
+
+// The answer of a call that gave this.
+fn answer_of<T: Drop>(given: Result<T, Refusal>) -> Answer
+    ensures { result ≡ answer_of given }
+{
+    match given {
+        Ok(_) => Ok(()),
+        Err(why) => Err(why),
+    }
+}
+
+// Tells an answer: the pair that it names, and its number.
+fn tell(answer: Answer, bad_block: &mut u32, bad_rule: &mut u32) -> u32
+    ensures value { result ≡ number_of answer }
+    ensures bad_block_after { bad_block.new ≡ block_of answer }
+    ensures bad_rule_after { bad_rule.new ≡ rule_of answer }
+{
+    *bad_block = answers::bad_block(answer);
+    *bad_rule = answers::bad_rule(answer);
+    answers::number(answer)
+}
+
+// Tells what a call that changes the image gave: its counts, 0 and 0 where it is refused, and its answer.
+fn tell_counts(
+    done: Result<Counts, Refusal>,
+    words: &mut u32,
+    erasures: &mut u32,
+    bad_block: &mut u32,
+    bad_rule: &mut u32,
+) -> u32
+    ensures value { result ≡ number_of (outcome_of done).answer }
+    ensures words_after { words.new ≡ (outcome_of done).words }
+    ensures erasures_after { erasures.new ≡ (outcome_of done).erasures }
+    ensures bad_block_after { bad_block.new ≡ block_of (outcome_of done).answer }
+    ensures bad_rule_after { bad_rule.new ≡ rule_of (outcome_of done).answer }
+{
+    (*words, *erasures) = match done {
+        Ok(counts) => (counts.words, counts.erasures),
+        Err(_) => (0, 0),
+    };
+    tell(answer_of(done), bad_block, bad_rule)
+}
+
+// Tells what a report gave: its numbers, zeros where it is refused, and its answer.
+fn tell_totals(
+    added: Result<Totals, Refusal>,
+    mapped: &mut u32,
+    free: &mut u32,
+    dead: &mut u32,
+    erase_sum: &mut u32,
+    bad_block: &mut u32,
+    bad_rule: &mut u32,
+) -> u32
+    ensures value { result ≡ number_of (totals_of_sums added).answer }
+    ensures mapped_after { mapped.new ≡ (totals_of_sums added).mapped }
+    ensures free_after { free.new ≡ (totals_of_sums added).free }
+    ensures dead_after { dead.new ≡ (totals_of_sums added).dead }
+    ensures erase_sum_after { erase_sum.new ≡ (totals_of_sums added).erase_sum }
+    ensures bad_block_after { bad_block.new ≡ block_of (totals_of_sums added).answer }
+    ensures bad_rule_after { bad_rule.new ≡ rule_of (totals_of_sums added).answer }
+{
+    (*mapped, *free, *dead, *erase_sum) = match added {
+        Ok(totals) => (totals.mapped, totals.free, totals.dead, totals.erase_sum),
+        Err(_) => (0, 0, 0, 0),
+    };
+    tell(answer_of(added), bad_block, bad_rule)
 }
 
 // Makes a fresh image. Refuses 1.
@@ -49,10 +126,7 @@ pub extern "C" fn shellwaltz_format(
     ensures erasures_after { erasures.new ≡ (format_outcome (shape blocks sectors logical) image.old).erasures }
 {
     let made = shellwaltz::format(image, geometry(blocks, sectors, logical));
-    *words = made.words;
-    *erasures = made.erasures;
-    let answer = made.answer;
-    answers::number(answer)
+    tell_counts(made, words, erasures, &mut 0, &mut 0)
 }
 
 // Whether the image is well formed, and if not, the first block and rule that fail. Refuses 1 and 4.
@@ -70,9 +144,7 @@ pub extern "C" fn shellwaltz_check(
     ensures bad_rule_after { bad_rule.new ≡ rule_of (check_answer (shape blocks sectors logical) image.now) }
 {
     let found = shellwaltz::check(image, geometry(blocks, sectors, logical));
-    *bad_block = answers::bad_block(found);
-    *bad_rule = answers::bad_rule(found);
-    answers::number(found)
+    tell(found, bad_block, bad_rule)
 }
 
 // Mapped, free and dead slots and the sum of the erase counts. Refuses 1 and 4, with four zeros.
@@ -97,15 +169,8 @@ pub extern "C" fn shellwaltz_report(
     ensures bad_block_after { bad_block.new ≡ block_of (reported (shape blocks sectors logical) image.now).answer }
     ensures bad_rule_after { bad_rule.new ≡ rule_of (reported (shape blocks sectors logical) image.now).answer }
 {
-    let totals = shellwaltz::report(image, geometry(blocks, sectors, logical));
-    *mapped = totals.mapped;
-    *free = totals.free;
-    *dead = totals.dead;
-    *erase_sum = totals.erase_sum;
-    let answer = totals.answer;
-    *bad_block = answers::bad_block(answer);
-    *bad_rule = answers::bad_rule(answer);
-    answers::number(answer)
+    let added = shellwaltz::report(image, geometry(blocks, sectors, logical));
+    tell_totals(added, mapped, free, dead, erase_sum, bad_block, bad_rule)
 }
 
 // Copies the 128 words of a sector to the buffer. Refuses 1, 2, 3, 4 and 5.
@@ -126,9 +191,7 @@ pub extern "C" fn shellwaltz_read(
     ensures bad_rule_after { bad_rule.new ≡ rule_of (read_answer (shape blocks sectors logical) image.now number buffer.old) }
 {
     let told = shellwaltz::read(image, geometry(blocks, sectors, logical), number, buffer);
-    *bad_block = answers::bad_block(told);
-    *bad_rule = answers::bad_rule(told);
-    answers::number(told)
+    tell(told, bad_block, bad_rule)
 }
 
 // Writes the 128 words of the buffer as a sector. Refuses 1, 2, 3, 4 and 6.
@@ -153,12 +216,7 @@ pub extern "C" fn shellwaltz_write(
     ensures bad_rule_after { bad_rule.new ≡ rule_of (write_outcome (shape blocks sectors logical) image.old number buffer.now).answer }
 {
     let wrote = shellwaltz::write(image, geometry(blocks, sectors, logical), number, buffer);
-    *words = wrote.words;
-    *erasures = wrote.erasures;
-    let answer = wrote.answer;
-    *bad_block = answers::bad_block(answer);
-    *bad_rule = answers::bad_rule(answer);
-    answers::number(answer)
+    tell_counts(wrote, words, erasures, bad_block, bad_rule)
 }
 
 // Releases a sector: its number is not mapped any more. Refuses 1, 3, 4 and 5.
@@ -182,12 +240,7 @@ pub extern "C" fn shellwaltz_release(
     ensures bad_rule_after { bad_rule.new ≡ rule_of (release_outcome (shape blocks sectors logical) image.old number).answer }
 {
     let freed = shellwaltz::release(image, geometry(blocks, sectors, logical), number);
-    *words = freed.words;
-    *erasures = freed.erasures;
-    let answer = freed.answer;
-    *bad_block = answers::bad_block(answer);
-    *bad_rule = answers::bad_rule(answer);
-    answers::number(answer)
+    tell_counts(freed, words, erasures, bad_block, bad_rule)
 }
 
 // Mends what a call that was cut short has left (K4). Refuses 1, 4, 10 and 6.
@@ -210,10 +263,5 @@ pub extern "C" fn shellwaltz_repair(
     ensures bad_rule_after { bad_rule.new ≡ rule_of (repair_outcome (shape blocks sectors logical) image.old).answer }
 {
     let mended = shellwaltz::repair(image, geometry(blocks, sectors, logical));
-    *words = mended.words;
-    *erasures = mended.erasures;
-    let given = mended.answer;
-    *bad_block = answers::bad_block(given);
-    *bad_rule = answers::bad_rule(given);
-    answers::number(given)
+    tell_counts(mended, words, erasures, bad_block, bad_rule)
 }

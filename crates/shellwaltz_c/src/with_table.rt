@@ -5,7 +5,7 @@ ghost use Rattle.answers.specs.Answers.{number_of, block_of, rule_of};
 ghost use Rattle.tabled.specs.Refusals.{build_answer, read_answer_with};
 ghost use Rattle.tabled.specs.Calls.{table_built, read_buffer_with, write_outcome_with, written_with, write_table, release_outcome_with, released_with, release_table};
 
-use super::geometry;
+use super::{geometry, tell, tell_counts};
 
 // Builds the table afresh, whatever it holds. Refuses 1, 2 and 4.
 #[unsafe(no_mangle)]
@@ -24,9 +24,7 @@ pub extern "C" fn shellwaltz_build_table(
     ensures bad_rule_after { bad_rule.new ≡ rule_of (build_answer (shape blocks sectors logical) image.now table.old) }
 {
     let built = tabled::build(image, geometry(blocks, sectors, logical), table);
-    *bad_block = answers::bad_block(built);
-    *bad_rule = answers::bad_rule(built);
-    answers::number(built)
+    tell(built, bad_block, bad_rule)
 }
 
 // Copies the 128 words of a sector to the buffer. Refuses 1, 2, 3, 4 and 5.
@@ -49,9 +47,7 @@ pub extern "C" fn shellwaltz_read_with_table(
 {
     let geo = geometry(blocks, sectors, logical);
     let told = tabled::read(image, geo, number, buffer, table);
-    *bad_block = answers::bad_block(told);
-    *bad_rule = answers::bad_rule(told);
-    answers::number(told)
+    tell(told, bad_block, bad_rule)
 }
 
 // Writes the 128 words of the buffer as a sector. Refuses 1, 2, 3, 4 and 6.
@@ -79,12 +75,7 @@ pub extern "C" fn shellwaltz_write_with_table(
 {
     let geo = geometry(blocks, sectors, logical);
     let wrote = tabled::write(image, geo, number, buffer, table);
-    *words = wrote.words;
-    *erasures = wrote.erasures;
-    let answer = wrote.answer;
-    *bad_block = answers::bad_block(answer);
-    *bad_rule = answers::bad_rule(answer);
-    answers::number(answer)
+    tell_counts(wrote, words, erasures, bad_block, bad_rule)
 }
 
 // Releases a sector: its number is not mapped any more. Refuses 1, 2, 3, 4 and 5.
@@ -110,10 +101,5 @@ pub extern "C" fn shellwaltz_release_with_table(
     ensures bad_rule_after { bad_rule.new ≡ rule_of (release_outcome_with (shape blocks sectors logical) image.old number table.old).answer }
 {
     let freed = tabled::release(image, geometry(blocks, sectors, logical), number, table);
-    *words = freed.words;
-    *erasures = freed.erasures;
-    let answer = freed.answer;
-    *bad_block = answers::bad_block(answer);
-    *bad_rule = answers::bad_rule(answer);
-    answers::number(answer)
+    tell_counts(freed, words, erasures, bad_block, bad_rule)
 }

@@ -1,18 +1,23 @@
 -- K4: what the call for one step of a write, a release or a repair gives, for every input (FORMAT.md, Step by step). What is reported and left of the first
 -- steps stands with the whole calls (calls/specs/Calls).
-use Rattle.std.specs.Prelude.{List, ℕ}
+use Rattle.std.specs.Prelude.{List, ℕ, Result}
 use Rattle.geometry.specs.declared.Geometry.{Geometry}
 use Rattle.image.specs.Words.{Image}
-use Rattle.flash.specs.declared.NextStep.TheVariants.{Done}
+use Rattle.flash.specs.declared.NextStep.{NextStep}
 use Rattle.flash.specs.Steps.{step_at}
-use Rattle.answers.specs.declared.Answer.{Answer}
+use Rattle.answers.specs.declared.Refusal.{Refusal}
+use Rattle.answers.specs.Answers.{Answer, answered}
 use Rattle.calls.specs.Refusals.{write_answer, release_answer, repair_answer}
 use Rattle.calls.specs.Calls.{write_steps, release_steps, repair_steps}
-use Rattle.stepwise.specs.declared.Stepped.{Stepped}
 
--- what a refused one gives
-abbrev pub no_step : Answer → Stepped
-no_step answer = record { answer = answer; next = Done }
+-- what a call for one step gives: the whole call's answer; and the step, or that the call is done before it
+pub record Stepped : Type 0 where
+  pub answer : Answer
+  pub next : NextStep
+
+-- the code gives the same as a Result
+abbrev pub step_of : Stepped → Result NextStep Refusal
+step_of s = answered s.answer s.next
 
 module _ (geo : Geometry) (image : Image) where
   -- step i, from 0, of the whole call on this image, or that there is none; a refused call has no step, and its answer is the whole call's

@@ -1,20 +1,19 @@
 -- K2: where the table has its length, a call that takes one answers as the call without one; where it has not, it gives the refusal of
 -- row 1 or 2. Assumes nothing.
-use mathlib.Core.Path.{◌≡◌, refl, sym, ap, ◌∙◌}
+use mathlib.Core.Path.{◌≡◌, refl}
 use mathlib.Core.Bool.{Bool, true, false, ◌&&◌}
 use mathlib.Core.List.{List, [], ◌∷◌}
-use mathlib.Core.Logic.{◌≢◌}
 use Prim.Native.Nat.{ℕ}
 use borrow.Author.Tests.{not-false}
+use Rattle.std.specs.Prelude.{Err}
 use Rattle.geometry.specs.declared.Geometry.{Geometry}
 use Rattle.image.specs.Words.{Image}
-use Rattle.image.specs.WellFormed.{well_formed}
 use Rattle.tables.specs.Tables.{Table}
-use Rattle.answers.specs.declared.Answer.{Answer}
-use Rattle.answers.specs.Answers.{number_of}
-use Rattle.answers.proofs.Acceptance.{accepted-number}
+use Rattle.answers.specs.declared.Refusal.{Refusal}
+use Rattle.answers.specs.Answers.{Accepted}
+use Rattle.answers.proofs.Acceptance.{not-accepted}
 use Rattle.calls.proofs.Rows.{NoneApplies, none-applies}
-use Rattle.calls.specs.Refusals.{check_rows, Row, first_that_applies, one_sector, row1, row2, row3, row4, row5, row6, check_answer, read_answer, write_answer, release_answer}
+use Rattle.calls.specs.Refusals.{Row, first_that_applies, one_sector, row1, row2, row3, row4, row5, row6, check_answer, read_answer, write_answer, release_answer}
 use Rattle.tabled.specs.Refusals.{word_for_each, table_rows, build_answer, read_answer_with, write_answer_with, release_answer_with}
 
 -- the image has its geometry's length, and the table a word for each number
@@ -22,53 +21,49 @@ pub record LentWell (geo : Geometry) (image : Image) (table : Table) : Type 0 wh
   pub image-fits : (row1 geo image).applies ≡ false
   pub table_fits : word_for_each geo table ≡ true
 
--- by what the two rows that a table brings with it were found to answer, and by the number of that answer
-module _
-    (geo : Geometry) (image : Image) (table : Table) {lent : Answer} {number : ℕ}
-    (asked : lent ≡ first_that_applies (table_rows geo image table)) (numbered : number ≡ number_of lent)
-  where
-    -- they pass
-    pub lent-well : number ≡ 0 → LentWell geo image table
-    lent-well z =
-        let accepted = sym asked ∙ (accepted-number lent).1 (sym numbered ∙ z) in
-        let rows : NoneApplies (table_rows geo image table) = none-applies (table_rows geo image table) accepted refl in
-        record { image-fits = rows.0; table_fits = not-false _ rows.1.0 }
+-- by what the two rows that a table brings with it answer
+module _ (geo : Geometry) (image : Image) (table : Table) where
+  -- they pass
+  pub lent-well : first_that_applies (table_rows geo image table) ≡ Accepted → LentWell geo image table
+  lent-well e =
+      let rows : NoneApplies (table_rows geo image table) = none-applies (table_rows geo image table) e in
+      record { image-fits = rows.0; table_fits = not-false _ rows.1.0 }
 
-    -- or one of them refuses, whatever comes after them and whatever else row 2 asks for
+  -- or one of them refuses, whatever comes after them and whatever else row 2 asks for
+  module _ {why : Refusal} (refused : first_that_applies (table_rows geo image table) ≡ Err why) where
     lent-badly :
-        number ≢ 0 →
         (has-length : Bool) (rest : List Row) →
         (word_for_each geo table ≡ false → has-length ≡ false) →
-        first_that_applies (row1 geo image ∷ row2 geo image has-length ∷ rest) ≡ lent
-    lent-badly n has-length rest asks = go (row1 geo image).applies refl (word_for_each geo table) refl ∙ sym asked
+        first_that_applies (row1 geo image ∷ row2 geo image has-length ∷ rest) ≡ Err why
+    lent-badly has-length rest asks = go (row1 geo image).applies refl (word_for_each geo table) refl
       where
         go :
             (x : Bool) →
             (row1 geo image).applies ≡ x →
             (w : Bool) →
             word_for_each geo table ≡ w →
-            first_that_applies (row1 geo image ∷ row2 geo image has-length ∷ rest) ≡ first_that_applies (table_rows geo image table)
-        go true p w q = rw p
-        go false p true q = absurd (n (numbered ∙ ap number_of asked ∙ rw (p, q)))
-        go false p false q = rw (p, q, asks q)
+            first_that_applies (row1 geo image ∷ row2 geo image has-length ∷ rest) ≡ Err why
+        go true p w q = rw p (rw p at refused)
+        go false p true q = absurd (not-accepted refused (rw (p, q)))
+        go false p false q = rw (p, asks q) (rw (p, q) at refused)
 
-    pub build-refused : number ≢ 0 → build_answer geo image table ≡ lent
+    pub build-refused : build_answer geo image table ≡ Err why
     unfolding build_answer
-    build-refused n = lent-badly n (word_for_each geo table) (row4 geo image ∷ []) (λ w. w)
+    build-refused = lent-badly (word_for_each geo table) (row4 geo image ∷ []) (λ w. w)
 
-    pub read-refused : number ≢ 0 → (m : ℕ) (buffer : List ℕ) → read_answer_with geo image m buffer table ≡ lent
+    pub read-refused : (m : ℕ) (buffer : List ℕ) → read_answer_with geo image m buffer table ≡ Err why
     unfolding read_answer_with
-    read-refused n m buffer =
-        lent-badly n (word_for_each geo table && one_sector buffer) (row3 geo image m ∷ row4 geo image ∷ row5 geo image m ∷ []) (λ w. rw w)
+    read-refused m buffer =
+        lent-badly (word_for_each geo table && one_sector buffer) (row3 geo image m ∷ row4 geo image ∷ row5 geo image m ∷ []) (λ w. rw w)
 
-    pub write-refused : number ≢ 0 → (m : ℕ) (buffer : List ℕ) → write_answer_with geo image m buffer table ≡ lent
+    pub write-refused : (m : ℕ) (buffer : List ℕ) → write_answer_with geo image m buffer table ≡ Err why
     unfolding write_answer_with
-    write-refused n m buffer =
-        lent-badly n (word_for_each geo table && one_sector buffer) (row3 geo image m ∷ row4 geo image ∷ row6 geo image ∷ []) (λ w. rw w)
+    write-refused m buffer =
+        lent-badly (word_for_each geo table && one_sector buffer) (row3 geo image m ∷ row4 geo image ∷ row6 geo image ∷ []) (λ w. rw w)
 
-    pub release-refused : number ≢ 0 → (m : ℕ) → release_answer_with geo image m table ≡ lent
+    pub release-refused : (m : ℕ) → release_answer_with geo image m table ≡ Err why
     unfolding release_answer_with
-    release-refused n m = lent-badly n (word_for_each geo table) (row3 geo image m ∷ row4 geo image ∷ row5 geo image m ∷ []) (λ w. w)
+    release-refused m = lent-badly (word_for_each geo table) (row3 geo image m ∷ row4 geo image ∷ row5 geo image m ∷ []) (λ w. w)
 
 -- with a table of its length, a call answers as the call without one
 module _ (geo : Geometry) (image : Image) (table : Table) (fits : word_for_each geo table ≡ true) where
@@ -87,10 +82,3 @@ module _ (geo : Geometry) (image : Image) (table : Table) (fits : word_for_each 
   pub release-alike : (n : ℕ) → release_answer_with geo image n table ≡ release_answer geo image n
   unfolding release_answer_with release_answer
   release-alike n = rw fits
-
--- an image that passes its check is well formed
-pub check-passes : (geo : Geometry) (image : Image) → number_of (check_answer geo image) ≡ 0 → well_formed geo image ≡ true
-unfolding check_answer
-check-passes geo image e =
-    let rows : NoneApplies (check_rows geo image) = none-applies (check_rows geo image) ((accepted-number (check_answer geo image)).1 e) refl in
-    not-false _ rows.1.0

@@ -7,7 +7,7 @@ use Rattle.tables.specs.Tables.{Table, right_table}
 use Rattle.flash.specs.declared.Step.{Step}
 use Rattle.flash.specs.Steps.{run}
 use Rattle.answers.specs.Answers.{if_accepted}
-use Rattle.calls.specs.declared.Outcome.{Outcome}
+use Rattle.calls.specs.Outcomes.{Outcome}
 use Rattle.tabled.specs.Refusals.{build_answer, read_answer_with, write_answer_with, release_answer_with}
 use Rattle.calls.specs.Calls.{buffer_after, write_steps_after, release_steps_after, outcome, table_after_writing, table_after_releasing}
 

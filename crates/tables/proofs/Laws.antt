@@ -14,11 +14,12 @@ use Rattle.geometry.specs.Geometry.{Limits, d}
 use Rattle.geometry.proofs.Laws.{d_small, d-positive}
 use Rattle.image.specs.declared.Slot.{Slot}
 use Rattle.image.specs.declared.Slot.TheVariants.{Free, Live, Dead, Faulty, Superseded}
-use Rattle.image.specs.declared.Found.{Found}
-use Rattle.image.specs.declared.Found.TheVariants.{At, Nothing}
+use Rattle.image.specs.Found.{Found}
+use Rattle.image.specs.Found.{At, Nothing}
 use Rattle.image.specs.Words.{Image}
 use Rattle.image.specs.Slots.{slot, find}
 use Rattle.image.proofs.Own.{live-number}
+use Rattle.image.proofs.SlotKinds.{NotLive}
 use Rattle.image.proofs.Facts.{Sound}
 use Rattle.image.proofs.Finding.{found-live, found_nothing}
 use Rattle.tables.specs.Tables.{Table, nowhere, place_word, right_table, noted, slot_noted, block_noted, blocks_noted}
@@ -88,6 +89,21 @@ module _ (geo : Geometry) where
       block_noted geo image b table (m + 1) ≡ slot_noted geo (block_noted geo image b table m) s (At b m)
   unfolding block_noted
   block-next image b table m e = rw (add-one, e)
+
+  -- a slot that is not live adds nothing
+  pub slot_same : (table : Table) (s : Slot) (now : Found) → NotLive s → slot_noted geo table s now ≡ table
+  slot_same table Free now other = refl
+  slot_same table (Live n) now other = absurd (other n refl)
+  slot_same table Dead now other = refl
+  slot_same table Faulty now other = refl
+  slot_same table Superseded now other = refl
+
+  pub block_same :
+      (image : Image) (b : ℕ) (table : Table) (m : ℕ) {s : Slot} →
+      slot geo image b m ≡ s →
+      NotLive s →
+      block_noted geo image b table (m + 1) ≡ block_noted geo image b table m
+  block_same image b table m {s} e other = block-next image b table m e ∙ slot_same _ s _ other
 
   pub blocks-next :
       (image : Image) (b : ℕ) → blocks_noted geo image (b + 1) ≡ block_noted geo image b (blocks_noted geo image b) (d geo)

@@ -1,7 +1,7 @@
 -- FORMAT.md, The script program: the bytes of a record's line and of the last line. proofs/Lines.antt proves each statement under the name in
 -- small letters.
 use Rattle.std.specs.Prelude.{◌≡◌, List, [], ◌∷◌, ◌++◌, ℕ, length, drop}
-use Rattle.calls.specs.declared.Totals.{Totals}
+use Rattle.calls.specs.Outcomes.{Totals}
 use Rattle.records.specs.declared.Line.{Line}
 use Rattle.records.specs.Records.{short_line}
 use Rattle.text.specs.Decimal.{decimal}

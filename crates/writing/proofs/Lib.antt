@@ -1,1 +1,3 @@
+pub mod NextSlot
+pub mod Erasing
 pub mod Links

@@ -6,15 +6,15 @@ use Rattle.image.specs.Blocks.{blank}
 use Rattle.image.specs.Mending.{count_unset}
 use Rattle.blocks.proofs.count_unset.Goals as goal
 
-pub returns-then-erase_count : goal.returns-then-erase_count
+pub returns-else-erase_count-eq4294967295 : goal.returns-else-erase_count-eq4294967295
 unfolding count_unset
-returns-then-erase_count c = sym
-    (rw (← c.erase_count.ensures, ne_eqb _ _ c.if-erase_count.true)
-    (and-false (blank c.args.geo c.args.image.now c.args.b)))
+returns-else-erase_count-eq4294967295 c = sym
+    (rw (← c.erase_count.ensures, ne_eqb _ _ c.if-erase_count-eq4294967295.false)
+    (and-false (blank c.args.block.now.image.geo c.args.block.now.image.words.now c.args.block.now.index)))
 
-pub returns : goal.returns
+pub returns-then-erase_count-eq4294967295 : goal.returns-then-erase_count-eq4294967295
 unfolding count_unset
-returns c = c.is_blank.ensures
+returns-then-erase_count-eq4294967295 c = c.is_blank.ensures
     ∙ sym
-    (rw (← c.erase_count.ensures, eq-eqb _ _ c.if-erase_count.false)
-    (and-true (blank c.args.geo c.args.image.now c.args.b)))
+    (rw (← c.erase_count.ensures, eq-eqb _ _ c.if-erase_count-eq4294967295.true)
+    (and-true (blank c.args.block.now.image.geo c.args.block.now.image.words.now c.args.block.now.index)))

@@ -1,72 +1,50 @@
 -- `blocks::free_slots` meets its contract: the set bits of the map's words are the free slots and, by R2, the bits from d on.
-use mathlib.Core.Path.{◌≡◌, refl}
-use Prim.Native.Nat.{suc, ◌+◌, ◌*◌, ◌-◌, ◌<◌}
-use native.Mathlib.Numerals.{add-one}
-use native.Mathlib.Omega.{arith}
-use lib.ListN.{length}
+use Rattle.std.proofs.Common.{◌≡◌, ◌∙◌, ◌+◌, ◌*◌, ◌-◌, length, get_or, refl, ap, add-one, arith}
 use Rattle.ranges.specs.Range.{sum_below}
 use Rattle.ranges.proofs.Sums.{sum_bound, count-le}
-use Rattle.bits.specs.Word.{is_set}
+use Rattle.bits.specs.Word.{is_set, set_bits}
 use Rattle.geometry.specs.Geometry.{d, k}
-use Rattle.geometry.proofs.Laws.{k-positive, k-small, map-covers}
-use Rattle.image.specs.Words.{word}
+use Rattle.geometry.proofs.Laws.{k-small, map-covers}
 use Rattle.image.specs.Blocks.{free_slots}
-use Rattle.blocks.proofs.FreeMap.{map-part-inside, ones-of-map}
-use Rattle.blocks.proofs.free_slots.Goals.{At-loop-m, Then-m-k}
+use Rattle.blocks.proofs.FreeMap.{words-long, ones-counted}
+use Rattle.blocks.proofs.free_slots.Goals.{After-k}
 use Rattle.blocks.proofs.free_slots.Goals as goal
 
--- a word of this turn lies in the image
-inside :
-    (c : At-loop-m) →
-    c.map_start-base.result + c.loop-m.m < length c.args.image.now
-inside c =
-    map-part-inside _ _ _ _ c.map_start-base.ensures c.requires.shaped c.requires.b_lt_blocks c.loop-m.m (omega arith)
+-- the set bits of all words of the map
+counted : (c : After-k) → c.loop-word.ones ≡ free_slots c.args.block.now.image.geo c.args.block.now.image.words.now c.args.block.now.index + (k c.args.block.now.image.geo * 32 - d c.args.block.now.image.geo)
+counted c =
+    let b = c.args.block.now in
+    c.loop-word.invariant
+    ∙ ap (λ n. sum_below n (λ m. set_bits (get_or c.map_words-word-items.result.now m 0))) (omega arith)
+    ∙ ap (λ ws. sum_below (length ws) (λ m. set_bits (get_or ws m 0))) c.map_words-word-items.ensures
+    ∙ ones-counted b.image.geo b.image.words.now b.index b.image.shaped b.in_image c.requires
 
--- all the set bits after the last turn: the free slots, and the bits from d on
-all_set :
-    (c : Then-m-k) →
-    let geo = c.args.geo in
-    c.loop-m.total + c.count_set.result ≡ free_slots geo c.args.image.now c.args.b + (k geo * 32 - d geo)
+pub loop-word-init : goal.loop-word-init
 unfolding sum_below
-all_set c =
-    let e : k c.args.geo ≡ suc c.loop-m.m = omega arith in
+loop-word-init c = refl
+
+pub overflow_add-ones : goal.overflow_add-ones
+overflow_add-ones c =
+    let b = c.args.block.now in
     omega (
       arith,
-      rw e at (ones-of-map _ _ _ _ c.map_start-base.ensures c.requires.shaped.limits c.requires.b_value),
-      c.loop-m.invariant.1,
-      c.count_set.ensures,
+      sum_bound c.loop-word.word-index 32 (λ m l. count-le 32 (is_set (get_or c.map_words-word-items.result.now m 0))),
+      words-long b.image.geo b.image.words.now b.index c.map_words-word-items.ensures b.image.shaped b.in_image c.requires,
+      k-small b.image.geo b.image.shaped.limits,
     )
 
-pub loop-m-init : goal.loop-m-init
+pub loop-word-preserved : goal.loop-word-preserved
 unfolding sum_below
-loop-m-init c = (omega (arith, k-positive _ c.requires.shaped.limits), refl)
-
-pub overflow_add-base : goal.overflow_add-base
-overflow_add-base c = omega (arith, inside (goal.at.overflow_add-base c).At-loop-m)
-
-pub offset_bounds-image-base : goal.offset_bounds-image-base
-offset_bounds-image-base c = omega (arith, inside (goal.at.offset_bounds-image-base c).At-loop-m)
-
-pub bounds-image-base : goal.bounds-image-base
-bounds-image-base c = inside (goal.at.bounds-image-base c).At-loop-m
-
-pub overflow_add-total : goal.overflow_add-total
-overflow_add-total c =
-    let few = sum_bound c.loop-m.m 32 (λ j l. count-le 32 (is_set (word c.args.image.now (c.map_start-base.result + j)))) in
-    omega (arith, k-small _ c.requires.shaped.limits)
-
-pub loop-m-preserved : goal.loop-m-preserved
-unfolding sum_below
-loop-m-preserved c = (omega arith, rw add-one (omega arith))
+loop-word-preserved c = rw add-one (omega arith)
 
 pub overflow_mul-result : goal.overflow_mul-result
-overflow_mul-result c = omega (arith, k-small _ c.requires.shaped.limits)
+overflow_mul-result c = omega (arith, k-small _ c.args.block.now.image.shaped.limits)
 
 pub overflow_sub-result : goal.overflow_sub-result
-overflow_sub-result c = omega (arith, map-covers _ c.requires.shaped.limits)
+overflow_sub-result c = omega (arith, map-covers _ c.args.block.now.image.shaped.limits)
 
 pub overflow_sub-result-2 : goal.overflow_sub-result-2
-overflow_sub-result-2 c = omega (arith, all_set (goal.at.overflow_sub-result-2 c).Then-m-k)
+overflow_sub-result-2 c = omega (arith, counted (goal.at.overflow_sub-result-2 c).After-k)
 
 pub returns : goal.returns
-returns c = omega (arith, all_set (goal.at.returns c).Then-m-k)
+returns c = omega (arith, counted (goal.at.returns c).After-k)

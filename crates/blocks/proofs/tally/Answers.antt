@@ -12,26 +12,26 @@ use Rattle.blocks.proofs.tally.Goals as goal
 
 -- the three kinds of slot add up
 parts : (c : Start) →
-    let geo = c.args.geo in
-    let image = c.args.image.now in
-    free_slots geo image c.args.b + live_slots geo image c.args.b + dead_slots geo image c.args.b ≡ d geo
-parts c = block-parts c.args.geo c.args.image.now (sound-facts _ _ c.requires.image_value) c.args.b c.requires.b_lt_blocks
+    let geo = c.args.block.now.image.geo in
+    let image = c.args.block.now.image.words.now in
+    free_slots geo image c.args.block.now.index + live_slots geo image c.args.block.now.index + dead_slots geo image c.args.block.now.index ≡ d geo
+parts c = block-parts c.args.block.now.image.geo c.args.block.now.image.words.now (sound-facts _ _ c.requires) c.args.block.now.index c.args.block.now.in_image
 
 -- and those that the code has counted
 added : (c : After-d) →
-    c.free_slots-free.result + c.live_slots-live.result + dead_slots c.args.geo c.args.image.now c.args.b
+    c.free_slots-free.result + c.live_slots-live.result + dead_slots c.args.block.now.image.geo c.args.block.now.image.words.now c.args.block.now.index
     ≡ c.d.result
 added c =
-    omega (arith, c.free_slots-free.ensures, c.live_slots-live.ensures, c.d.ensures, parts c.before.before.before.before.before)
+    omega (arith, c.free_slots-free.ensures, c.live_slots-live.ensures, c.d.ensures, parts c.before.before.before.before)
 
-pub free_slots-free-requires-clause-b_value : goal.free_slots-free-requires-clause-b_value
-free_slots-free-requires-clause-b_value c = (sound-maps _ _ (sound-facts _ _ c.requires.image_value)).agrees _ c.requires.b_lt_blocks
+pub free_slots-free-requires : goal.free_slots-free-requires
+free_slots-free-requires c = (sound-maps _ _ (sound-facts _ _ c.requires)).agrees _ c.args.block.now.in_image
 
 pub overflow_cast-free : goal.overflow_cast-free
-overflow_cast-free c = omega (arith, c.free_slots-free.ensures, parts (goal.at.overflow_cast-free c).Start, d_small c.args.geo c.requires.shaped.limits)
+overflow_cast-free c = omega (arith, c.free_slots-free.ensures, parts (goal.at.overflow_cast-free c).Start, d_small c.args.block.now.image.geo c.args.block.now.image.shaped.limits)
 
-pub live_slots-live-requires-clause-none_superseded : goal.live_slots-live-requires-clause-none_superseded
-live_slots-live-requires-clause-none_superseded c = (sound-facts _ _ c.requires.image_value).current
+pub live_slots-live-requires : goal.live_slots-live-requires
+live_slots-live-requires c = (sound-facts _ _ c.requires).current
 
 pub overflow_sub-dead : goal.overflow_sub-dead
 overflow_sub-dead c = omega (arith, added (goal.at.overflow_sub-dead c).After-d)
@@ -41,6 +41,6 @@ overflow_sub-dead-2 c = omega (arith, added (goal.at.overflow_sub-dead-2 c).Afte
 
 pub returns : goal.returns
 returns c =
-    let dead : c.d.result - c.free_slots-free.result - c.live_slots-live.result ≡ dead_slots c.args.geo c.args.image.now c.args.b =
+    let dead : c.d.result - c.free_slots-free.result - c.live_slots-live.result ≡ dead_slots c.args.block.now.image.geo c.args.block.now.image.words.now c.args.block.now.index =
     omega (arith, added (goal.at.returns c).After-d) in
     rw (dead, c.free_slots-free.ensures, c.live_slots-live.ensures)

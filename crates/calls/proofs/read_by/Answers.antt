@@ -1,97 +1,63 @@
 -- `calls::read_by` meets its contract: its tests are rows 1 to 5, asked in that order, and a sector that was found is copied.
-use mathlib.Core.Path.{◌≡◌, refl, sym, ◌∙◌}
-use mathlib.Core.Bool.{false}
-use mathlib.Core.List.{[], ◌∷◌}
-use native.Mathlib.Omega.{arith}
-use borrow.Author.Tests.{eq-eqb, ne_eqb, le-leb, lt-leb, not-false}
-use Rattle.image.specs.declared.Found.TheVariants.{At}
+use mathlib.Core.Path.{◌≡◌, sym, ◌∙◌}
+use Rattle.std.specs.Prelude.{Err}
+use Rattle.image.specs.Found.{At, Nothing}
 use Rattle.image.specs.Slots.{find}
 use Rattle.image.proofs.Facts.{formed-sound}
-use Rattle.image.proofs.Finding.{found-live}
-use Rattle.calls.specs.Refusals.{first_that_applies, row1, row5, read_answer}
+use Rattle.image.proofs.Finding.{LiveAt, found-live}
+use Rattle.calls.specs.Refusals.{read_answer}
 use Rattle.calls.specs.Calls.{read_buffer}
-use Rattle.calls.proofs.CallLaws.{as-tested, shaped-left, fault-applies, fault-passes, fault-named, past-four}
-use mathlib.Core.Bool.{not}
-use mathlib.Core.Path.{ap}
-use Rattle.calls.proofs.read_by.Goals.{Else-fault-ne0, Else-fault-ne0, Else-not-fits, Else-not-fits, In-At}
+use Rattle.calls.proofs.CallLaws.{read-refused, read-passed, sector-formed, nowhere}
+use Rattle.calls.proofs.read_by.Goals.{In-Err, In_default, In-Some}
 use Rattle.calls.proofs.read_by.Goals as goal
 
--- past the first test
-left1 : (c : Else-not-fits) → (row1 c.args.geo c.args.image.now).applies ≡ false
-left1 c = as-tested c.fits.ensures (ap not c.if-not-fits.false)
+-- refused by one of the first four rows
+refused : (c : In-Err) → read_answer c.args.geo c.args.image.now c.args.n c.args.buffer.now ≡ Err c.in-Err.why
+refused c = read-refused _ _ _ _ (sym c.in-Err.ensures.answer)
 
--- past the fourth
-left4 : (c : Else-fault-ne0)
-    → let args = c.args in
-    read_answer args.geo args.image.now args.n args.buffer.now ≡ first_that_applies (row5 args.geo args.image.now args.n ∷ [])
-unfolding read_answer
-left4 c =
-    let args = c.args in
-    past-four args.geo args.image.now args.n args.buffer.now (row5 args.geo args.image.now args.n ∷ [])
-    (left1 (record { before = c.before.before.before.before.before.before.before; type_inv = record { table = c.type_inv.table; buffer = c.type_inv.buffer; image = c.type_inv.image } }))
-    (omega (arith, c.if-buffer-ne128.false))
-    (omega (arith, c.if-geo-n.false))
-    (fault-passes _ _ c.first_fault-fault.ensures c.if-fault-ne0.false)
+-- not found, and found
+missed : (c : In_default) → find c.args.geo c.args.image.now c.args.n ≡ Nothing
+missed c = sym (rw (c.in-Ok.ensures.image.0, c.in-Ok.ensures.image.1) at c.look_up.ensures) ∙ nowhere _ c.in_default.not-Some
 
--- where the number was found
-found : (c : In-At)
-    → find c.args.geo c.args.image.now c.args.n ≡ At c.in-At.b c.in-At.i
-found c = sym c.look_up.ensures ∙ c.in-At.is
+found : (c : In-Some) → find c.args.geo c.args.image.now c.args.n ≡ At c.in-Some.b c.in-Some.i
+found c = sym (rw (c.in-Ok.ensures.image.0, c.in-Ok.ensures.image.1) at c.look_up.ensures) ∙ c.in-Some.is
 
--- the clauses of the contract, of their product
-clauses : {A0 A1 : Type 0} → A0 × A1 → record { value : A0; buffer_after : A1 }
-clauses p = record { value = p.0; buffer_after = p.1 }
+live : (c : In-Some) → let image = c.in-Ok.image in LiveAt image.geo image.words.now c.args.n c.in-Some.b c.in-Some.i
+live c = found-live _ _ _ _ _ (sym c.look_up.ensures ∙ c.in-Some.is)
 
-pub returns-then-not-fits : goal.returns-then-not-fits
-unfolding read_answer read_buffer
-returns-then-not-fits c = clauses (rw (as-tested c.fits.ensures (ap not c.if-not-fits.true)) (refl, refl))
+pub returns-in-Err-clause-value : goal.returns-in-Err-clause-value
+returns-in-Err-clause-value c =
+    sym (refused (goal.at.returns-in-Err-clause-value c).In-Err)
 
-pub returns-then-buffer-ne128 : goal.returns-then-buffer-ne128
-unfolding read_answer read_buffer
-returns-then-buffer-ne128 c = clauses (rw (left1 (goal.at.returns-then-buffer-ne128 c).Else-not-fits, ne_eqb _ _ c.if-buffer-ne128.true) (refl, refl))
-
-pub returns-then-geo-n : goal.returns-then-geo-n
-unfolding read_answer read_buffer
-returns-then-geo-n c = clauses (rw (left1 (goal.at.returns-then-geo-n c).Else-not-fits, eq-eqb _ _ c.if-buffer-ne128.false, le-leb _ _ c.if-geo-n.true) (refl, refl))
-
-pub first_fault-fault-requires : goal.first_fault-fault-requires
-first_fault-fault-requires c = shaped-left _ _ (left1 (goal.at.first_fault-fault-requires c).Else-not-fits)
-
-pub returns-then-fault-ne0 : goal.returns-then-fault-ne0
-unfolding read_answer read_buffer
-returns-then-fault-ne0 c = clauses (let named = c.first_fault-fault.ensures in
-    rw (
-      left1 (goal.at.returns-then-fault-ne0 c).Else-not-fits,
-      eq-eqb _ _ c.if-buffer-ne128.false,
-      lt-leb _ _ c.if-geo-n.false,
-      fault-applies _ _ named c.if-fault-ne0.true,
-    )
-    (fault-named _ _ named, refl))
+pub returns-in-Err-clause-buffer_after : goal.returns-in-Err-clause-buffer_after
+unfolding read_buffer
+returns-in-Err-clause-buffer_after c = rw (refused (goal.at.returns-in-Err-clause-buffer_after c).In-Err)
 
 pub look_up-requires-clause-image_value : goal.look_up-requires-clause-image_value
-look_up-requires-clause-image_value c = let formed = not-false _ (fault-passes _ _ c.first_fault-fault.ensures c.if-fault-ne0.false) in
-    formed-sound _ _ formed
+look_up-requires-clause-image_value c =
+    rw (c.in-Ok.ensures.image.0, c.in-Ok.ensures.image.1) (formed-sound _ _ (sector-formed _ _ _ _ (sym c.in-Ok.ensures.answer)).1)
 
-pub look_up-requires-clause-shaped : goal.look_up-requires-clause-shaped
-look_up-requires-clause-shaped c = let formed = not-false _ (fault-passes _ _ c.first_fault-fault.ensures c.if-fault-ne0.false) in
-    shaped-left _ _ (left1 (goal.at.look_up-requires-clause-shaped c).Else-not-fits)
+pub returns-in_default-clause-value : goal.returns-in_default-clause-value
+returns-in_default-clause-value c =
+    rw (read-passed _ _ _ _ (sym c.in-Ok.ensures.answer), missed (goal.at.returns-in_default-clause-value c).In_default)
 
-pub copy_contents-requires-clause-b_lt_blocks : goal.copy_contents-requires-clause-b_lt_blocks
-copy_contents-requires-clause-b_lt_blocks c = let live = found-live _ _ _ _ _ (found (goal.at.copy_contents-requires-clause-b_lt_blocks c).In-At) in
-    omega (arith, live.block)
+pub returns-in_default-clause-buffer_after : goal.returns-in_default-clause-buffer_after
+unfolding read_buffer
+returns-in_default-clause-buffer_after c =
+    rw (read-passed _ _ _ _ (sym c.in-Ok.ensures.answer), missed (goal.at.returns-in_default-clause-buffer_after c).In_default)
+
+pub block-requires : goal.block-requires
+block-requires c = (live (goal.at.block-requires c).In-Some).block
 
 pub copy_contents-requires-clause-i_bound : goal.copy_contents-requires-clause-i_bound
-copy_contents-requires-clause-i_bound c = let live = found-live _ _ _ _ _ (found (goal.at.copy_contents-requires-clause-i_bound c).In-At) in
-    omega (arith, live.slot_is)
+copy_contents-requires-clause-i_bound c = rw c.block.ensures.image (live (goal.at.copy_contents-requires-clause-i_bound c).In-Some).slot_is
 
-pub copy_contents-requires-clause-shaped : goal.copy_contents-requires-clause-shaped
-copy_contents-requires-clause-shaped c = let live = found-live _ _ _ _ _ (found (goal.at.copy_contents-requires-clause-shaped c).In-At) in
-    shaped-left _ _ (left1 (goal.at.copy_contents-requires-clause-shaped c).Else-not-fits)
+pub returns-clause-value : goal.returns-clause-value
+returns-clause-value c =
+    rw (read-passed _ _ _ _ (sym c.in-Ok.ensures.answer), found (goal.at.returns-clause-value c).In-Some)
 
-pub returns-in-At : goal.returns-in-At
+pub returns-clause-buffer_after : goal.returns-clause-buffer_after
 unfolding read_buffer
-returns-in-At c = clauses (rw (left4 (goal.at.returns-in-At c).Else-fault-ne0, found (goal.at.returns-in-At c).In-At) (refl, c.copy_contents.ensures))
-
-pub returns-in-Nothing : goal.returns-in-Nothing
-unfolding read_buffer
-returns-in-Nothing c = clauses (rw (left4 (goal.at.returns-in-Nothing c).Else-fault-ne0, sym c.look_up.ensures ∙ c.in-Nothing.is) (refl, refl))
+returns-clause-buffer_after c =
+    rw (read-passed _ _ _ _ (sym c.in-Ok.ensures.answer), found (goal.at.returns-clause-buffer_after c).In-Some)
+    (rw (c.block.ensures.image, c.block.ensures.index, c.in-Ok.ensures.image.0, c.in-Ok.ensures.image.1) at c.copy_contents.ensures)

@@ -2,7 +2,6 @@
 -- the image has one.
 use mathlib.Core.Path.{◌≡◌}
 use mathlib.Core.Bool.{true}
-use Prim.Native.Nat.{◌-◌, ◌≤◌}
 use Rattle.ranges.specs.Range.{all_below}
 use Rattle.image.specs.Slots.{slot}
 use Rattle.image.specs.WellFormed.{sound_block}
@@ -10,7 +9,4 @@ use Rattle.rules.specs.Marks.{Marks}
 use Rattle.naming.proofs.first_bad.Given as goal
 
 abbrev pub invariant-loop-b : goal.invariant-loop-b
-invariant-loop-b l = (l.b ≤ l.blocks) × Marks l.geo (slot l.geo l.image) l.b 0 l.marks × (all_below l.b (sound_block l.geo l.image) ≡ true)
-
-abbrev pub decreases-loop-b : goal.decreases-loop-b
-decreases-loop-b l = l.blocks - l.b
+invariant-loop-b l = Marks l.image.geo (slot l.image.geo l.image.words.now) l.b 0 l.marks.words × (all_below l.b (sound_block l.image.geo l.image.words.now) ≡ true)

@@ -6,5 +6,5 @@ use Rattle.naming.proofs.mark_all_completes.Goals as goal
 
 pub returns : goal.returns
 returns c =
-    let end : c.loop-b.b ≡ c.args.geo.blocks = omega arith in
-    marks-complete _ _ (rw end at c.loop-b.invariant.1)
+    let end : c.loop-b.b ≡ c.args.image.now.geo.blocks = omega arith in
+    marks-complete _ _ (rw end at c.loop-b.invariant)

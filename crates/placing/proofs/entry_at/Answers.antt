@@ -1,19 +1,16 @@
 -- `placing::entry_at` meets its contract: it reads the entry where the definition has it.
-use mathlib.Core.Path.{ap}
-use native.Mathlib.Omega.{arith}
-use Rattle.image.specs.Words.{word, entry}
-use Rattle.flash.proofs.CodeLaws.{found-entry-inside}
+use Rattle.std.proofs.Common.{ap, length, arith}
+use Rattle.image.proofs.Places.{entries-long, entries-at}
 use Rattle.placing.proofs.entry_at.Goals as goal
 
-pub overflow_add-at : goal.overflow_add-at
-overflow_add-at c = omega (arith, found-entry-inside _ (c.requires.shaped, c.requires.in_image) c.in-At.is)
+pub bounds-entries-i : goal.bounds-entries-i
+bounds-entries-i c =
+    let image = c.args.image.now in
+    let is = rw (c.block.ensures.image, c.block.ensures.index) at c.entries.ensures in
+    omega (arith, ap length is, entries-long image.geo image.words.now image.shaped (c.requires.block _ _ c.in-Some.is), c.requires.slot_is _ _ c.in-Some.is)
 
-pub offset_bounds-image-at : goal.offset_bounds-image-at
-offset_bounds-image-at c = omega (arith, found-entry-inside _ (c.requires.shaped, c.requires.in_image) c.in-At.is)
-
-pub bounds-image-at : goal.bounds-image-at
-bounds-image-at c = omega (arith, found-entry-inside _ (c.requires.shaped, c.requires.in_image) c.in-At.is)
-
-pub returns-in-At : goal.returns-in-At
-unfolding entry
-returns-in-At c = rw c.in-At.is (ap (word c.args.image.now) (omega arith))
+pub returns-in-Some : goal.returns-in-Some
+returns-in-Some c =
+    let image = c.args.image.now in
+    let is = rw (c.block.ensures.image, c.block.ensures.index) at c.entries.ensures in
+    rw (c.in-Some.is, is) (entries-at image.geo image.words.now c.in-Some.b c.in-Some.i (c.requires.slot_is _ _ c.in-Some.is))

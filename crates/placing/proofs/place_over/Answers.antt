@@ -1,191 +1,159 @@
 -- `placing::place_over` meets its contract: each call carries out what is left for one of the steps (a) to (g).
 use mathlib.Core.List.{List, [], ◌∷◌}
-use mathlib.Core.Path.{◌≡◌, refl, ◌∙◌}
-use Prim.Native.Nat.{ℕ, ◌+◌, ◌-◌, ◌^◌, ◌<◌}
+use mathlib.Core.Path.{◌≡◌, refl, ap, ◌∙◌}
+use Prim.Native.Nat.{ℕ, ◌+◌, ◌<◌}
 use native.Mathlib.Omega.{arith}
 use lib.ListN.{length}
 use Rattle.bits.specs.Word.{cleared}
-use Rattle.geometry.specs.declared.Geometry.{Geometry}
 use Rattle.geometry.specs.Places.{place, entry_word}
-use Rattle.geometry.proofs.Laws.{logical-small}
-use Rattle.image.specs.declared.Found.{Found}
-use Rattle.image.specs.Words.{Image, Shaped}
+use Rattle.image.specs.Found.{Found}
 use Rattle.image.specs.Slots.{valid_bit, current_bit, find}
 use Rattle.image.proofs.Facts.{sound-facts}
 use Rattle.image.proofs.Reading.{entry-inside}
 use Rattle.flash.specs.declared.Step.TheVariants.{Program}
-use Rattle.flash.specs.Steps.{run, first_of}
+use Rattle.flash.specs.declared.run.Run.{Run}
+use Rattle.flash.specs.Runs.{Does}
 use Rattle.flash.specs.Placing.{entry_at, programs_entry, takes_slot, stores_contents, fills_slot, closes_block, placing}
-use Rattle.flash.proofs.Parts.{Carried, and_then, stopped, passed}
+use Rattle.flash.proofs.RunLaws.{as-steps, by-geo, both, at-place, done, none-left}
 use Rattle.flash.proofs.Filling.{Ready, Target}
 use Rattle.flash.proofs.Placed.{filled-placed}
 use Rattle.flash.proofs.Kept.{maps-kept}
-use Rattle.flash.proofs.CodeLaws.{still-shaped, found_inside, program-carried}
-use Rattle.placing.proofs.place_over.Goals.{After-shared_slice_known-1, After-entries_start, After-program_entry-left_f, After-program_within-left_d, After-program_within-left_e, After-store_contents-left_c, Start}
+use Rattle.flash.proofs.CodeLaws.{found_inside}
+use Rattle.placing.proofs.place_over.Goals.{After-entries_start, After-view, After-store_contents, After-program_entry-2}
 use Rattle.placing.proofs.place_over.Goals as goal
 
--- what the calls leave, one after the other, is what the first steps of (a) to (f) leave
+-- what the calls do, one after the other, are the steps (a) to (f)
 filled :
-    (geo : Geometry) (image : Image) (n : ℕ) (ws : List ℕ) (b i most : ℕ)
-    {A B C D E F : Image} {p q r s t u : ℕ} {old : Found} {entry outdated retired at : ℕ} →
-    old ≡ find geo image n →
-    entry ≡ entry_at geo image old →
+    (n : ℕ) (ws : List ℕ) (b i : ℕ) {r A B C D E F : Run} {old : Found} {entry outdated retired at : ℕ} →
+    old ≡ find r.geo r.words.now n →
+    entry ≡ entry_at r.geo r.words.now old →
     outdated ≡ cleared entry current_bit →
     retired ≡ cleared outdated valid_bit →
-    at ≡ place geo b (entry_word geo i) →
-    Carried geo image most (takes_slot geo image b i) p A →
-    Carried geo A p (programs_entry geo old outdated) q B →
-    Carried geo B q (stores_contents geo b i ws) r C →
-    (s ≡ r - 1) × ((any : Geometry) → D ≡ run any C (first_of r (Program at (0xE0000000 + n) ∷ []))) →
-    (t ≡ s - 1) × ((any : Geometry) → E ≡ run any D (first_of s (Program at (0xC0000000 + n) ∷ []))) →
-    Carried geo E t (programs_entry geo old retired) u F →
-    Carried geo image most (fills_slot geo image (find geo image n) n ws b i) u F
+    at ≡ place r.geo b (entry_word r.geo i) →
+    Does r A (takes_slot r.geo r.words.now b i) →
+    Does A B (programs_entry A.geo old outdated) →
+    Does B C (stores_contents B.geo b i ws) →
+    Does C D (Program at (0xE0000000 + n) ∷ []) →
+    Does D E (Program at (0xC0000000 + n) ∷ []) →
+    Does E F (programs_entry E.geo old retired) →
+    Does r F (fills_slot r.geo r.words.now (find r.geo r.words.now n) n ws b i)
 unfolding fills_slot
-filled geo image n ws b i most {A} {B} {C} {D} {E} {p = p} {q = q} {r = r} {s = s} {t = t} o y z w h a b' c d e f =
+filled n ws b i {old = old} {outdated = outdated} {retired = retired} o y z w h a b' c d e f =
+    let of_b = b'.same_geo ∙ a.same_geo in
+    let of_e = e.same_geo ∙ d.same_geo ∙ c.same_geo ∙ of_b in
     rw (← o, ← y, ← z, ← w)
-    (and_then geo image most _ a _
-    (and_then geo A p _ b' _
-    (and_then geo B q _ c _
-    (and_then geo C r (_ ∷ []) (program-carried geo C r d h refl) _
-    (and_then geo D s (_ ∷ []) (program-carried geo D s e h refl) _
-    f)))))
-
--- and with (g) it is what the first steps of the placing leave
-placed :
-    (geo : Geometry) (image : Image) (n : ℕ) (ws : List ℕ) (b i most : ℕ) {F after : Image} {left rest : ℕ} →
-    Carried geo image most (fills_slot geo image (find geo image n) n ws b i) left F →
-    (left ≡ 0 → ⊥) →
-    Carried geo F left (closes_block geo F b) rest after →
-    Carried geo image most (placing geo image n ws b i) rest after
-unfolding placing
-placed geo image n ws b i most {F} {left = left} first some second =
-    let steps = fills_slot geo image (find geo image n) n ws b i in
-    rw (← passed geo image most steps first some) (and_then geo image most steps first (closes_block geo F b) second)
-
-cut_short :
-    (geo : Geometry) (image : Image) (n : ℕ) (ws : List ℕ) (b i most : ℕ) {F : Image} {left : ℕ} →
-    Carried geo image most (fills_slot geo image (find geo image n) n ws b i) left F →
-    left ≡ 0 →
-    Carried geo image most (placing geo image n ws b i) 0 F
-unfolding placing
-cut_short geo image n ws b i most first none = stopped geo image most _ first none _
+    (both a
+    (both (by-geo (λ geo. programs_entry geo old outdated) b' a.same_geo)
+    (both (by-geo (λ geo. stores_contents geo b i ws) c of_b)
+    (both (at-place d h refl)
+    (both (at-place e h refl)
+    (by-geo (λ geo. programs_entry geo old retired) f of_e))))))
 
 -- the slot's entry lies in the image
-inside : (c : After-entries_start) →
-    c.entries_start.result + c.args.i < length c.args.image.now
+inside : (c : After-entries_start) → c.entries_start.result + c.args.i < length c.args.run.now.words.now
 inside c =
-    omega (arith, entry-inside _ _ c.requires.shaped {i = c.args.i} c.requires.b_lt_blocks c.requires.i_bound)
+    omega (arith, entry-inside _ _ c.args.run.now.shaped {i = c.args.i} c.requires.b_lt_blocks c.requires.i_bound)
 
--- the image keeps its shape: after (c), (d), (e) and (f)
-stored : (c : After-store_contents-left_c) → Shaped c.args.geo c.store_contents-left_c.new.image
-stored c =
-    still-shaped _
-    c.requires.shaped
-    (c.store_contents-left_c.auto.image ∙ c.program_entry-left_b.auto.image ∙ c.take_slot-left_a.auto.image)
+-- the geometry after (c)
+stored : (c : After-store_contents) → c.store_contents.new.run.geo ≡ c.args.run.now.geo
+stored c = c.store_contents.ensures.same_geo ∙ c.program_entry.ensures.same_geo ∙ c.take_slot.ensures.same_geo
 
-begun : (c : After-program_within-left_d) → Shaped c.args.geo c.program_within-left_d.new.image
-begun c = still-shaped _ (stored (record { before = c.before.before.before.before.before; type_inv = record { words = c.type_inv.words } })) c.program_within-left_d.auto.image
-
-completed : (c : After-program_within-left_e) → Shaped c.args.geo c.program_within-left_e.new.image
-completed c = still-shaped _ (begun (record { before = c.before.before.before.before.before; type_inv = record { words = c.type_inv.words } })) c.program_within-left_e.auto.image
-
-retired : (c : After-program_entry-left_f) → Shaped c.args.geo c.program_entry-left_f.new.image
-retired c = still-shaped _ (completed (record { before = c.before.before.before.before.before.before; type_inv = record { words = c.type_inv.words } })) c.program_entry-left_f.auto.image
-
--- a number fits beside the three bits of an entry
-number_small : (c : Start) → c.args.n < 2 ^ 29
-number_small c = omega (arith, logical-small c.args.geo c.requires.shaped.limits)
-
--- the image after (f)
-six : (c : After-program_entry-left_f) →
-    let a = c.args in
-    Carried a.geo a.image.now a.most (fills_slot a.geo a.image.now (find a.geo a.image.now a.n) a.n a.words.now a.b a.i)
-    c.program_entry-left_f.result
-    c.program_entry-left_f.new.image
+-- the run after (f)
+six : (c : After-program_entry-2) →
+    let r = c.args.run.now in
+    let sector = c.args.sector.now in
+    Does r c.program_entry-2.new.run (fills_slot r.geo r.words.now (find r.geo r.words.now sector.number) sector.number sector.words.now c.args.b c.args.i)
 six c =
-    let args = c.args in
-    let at : c.entries_start.result + args.i ≡ place args.geo args.b (entry_word args.geo args.i) =
-    omega (arith, c.entries_start.ensures) in
-    filled args.geo args.image.now args.n args.words.now args.b args.i args.most
+    filled c.args.sector.now.number c.args.sector.now.words.now c.args.b c.args.i
     c.requires.value
-    c.entry_at.ensures
+    (rw (c.view.ensures.geo, c.view.ensures.words) at c.entry_at.ensures)
     c.clear_bit-outdated.ensures
     c.clear_bit.ensures
-    at
-    (c.take_slot-left_a.ensures.value, c.take_slot-left_a.ensures.image_after)
-    (c.program_entry-left_b.ensures.value, c.program_entry-left_b.ensures.image_after)
-    (c.store_contents-left_c.ensures.value, c.store_contents-left_c.ensures.image_after)
-    (c.program_within-left_d.ensures.value, c.program_within-left_d.ensures.image_after)
-    (c.program_within-left_e.ensures.value, c.program_within-left_e.ensures.image_after)
-    (c.program_entry-left_f.ensures.value, c.program_entry-left_f.ensures.image_after)
+    (omega (arith, c.entries_start.ensures))
+    c.take_slot.ensures
+    c.program_entry.ensures
+    c.store_contents.ensures
+    (at-place c.program.ensures refl c.begun.ensures)
+    (at-place c.program-2.ensures refl c.complete.ensures)
+    c.program_entry-2.ensures
+
+pub overflow_add-entry : goal.overflow_add-entry
+overflow_add-entry c = omega (arith, inside (goal.at.overflow_add-entry c).After-entries_start)
+
+pub entry_at-requires : goal.entry_at-requires
+entry_at-requires c = rw c.view.ensures.geo (found_inside _ _ _ c.requires.value)
+
+pub program_entry-requires : goal.program_entry-requires
+program_entry-requires c = rw c.take_slot.ensures.same_geo (found_inside _ _ _ c.requires.value)
+
+-- the slot's entry lies in the image of a run that has its geometry
+still-inside : (c : After-entries_start) (r : Run) → r.geo ≡ c.args.run.now.geo → c.entries_start.result + c.args.i < length r.words.now
+still-inside c r e =
+    omega (arith, entry-inside r.geo r.words.now r.shaped {b = c.args.b} {i = c.args.i} (rw e c.requires.b_lt_blocks) (rw e c.requires.i_bound), ap (λ geo. place geo c.args.b (entry_word geo c.args.i)) e)
+
+pub program-requires : goal.program-requires
+program-requires c = still-inside (goal.at.program-requires c).After-entries_start c.store_contents.new.run (stored (goal.at.program-requires c).After-store_contents)
+
+pub program-requires-2 : goal.program-requires-2
+program-requires-2 c =
+    still-inside (goal.at.program-requires-2 c).After-entries_start c.program.new.self (c.program.ensures.same_geo ∙ stored (goal.at.program-requires-2 c).After-store_contents)
+
+pub program_entry-requires-2 : goal.program_entry-requires-2
+program_entry-requires-2 c =
+    rw (c.program-2.ensures.same_geo, c.program.ensures.same_geo, stored (goal.at.program_entry-requires-2 c).After-store_contents) (found_inside _ _ _ c.requires.value)
 
 -- what the placing starts from, as the laws want it
-ready : (c : After-shared_slice_known-1) → let a = c.args in Ready a.geo a.image.now
+ready : (c : After-view) → let r = c.args.run.now in Ready r.geo r.words.now
 ready c =
     record {
-      shaped = c.requires.shaped;
-      words = record { small = λ q. (c.type_inv.image q).fits };
+      shaped = c.args.run.now.shaped;
+      words = rw c.view.ensures.words at c.view.result.words32;
       sound = sound-facts _ _ c.requires.image_value;
     }
 
-target : (c : After-shared_slice_known-1) →
-    let a = c.args in Target a.geo a.image.now a.n a.words.now a.b a.i
+target : (c : After-view) →
+    let r = c.args.run.now in
+    let sector = c.args.sector.now in
+    Target r.geo r.words.now sector.number sector.words.now c.args.b c.args.i
 target c =
     record {
-      number = c.requires.n_lt_logical;
-      long = c.requires.words_len;
-      words = record { small = λ q. (c.type_inv.words q).fits };
+      number = c.requires.number_lt_logical;
+      long = c.args.sector.now.whole;
+      words = c.args.sector.now.words32;
       block = c.requires.b_lt_blocks;
       slot_is = c.requires.i_bound;
       free = c.requires.i_value;
     }
 
-pub overflow_add-entry : goal.overflow_add-entry
-overflow_add-entry c = omega (arith, inside (goal.at.overflow_add-entry c).After-entries_start)
+pub returns-then-run-gt0 : goal.returns-then-run-gt0
+unfolding placing
+returns-then-run-gt0 c =
+    let r = c.args.run.now in
+    let filled = six (goal.at.returns-then-run-gt0 c).After-program_entry-2 in
+    both filled
+    (as-steps c.close_block.ensures
+    (ap (λ geo. closes_block geo c.program_entry-2.new.run.words.now c.args.b) filled.same_geo
+    ∙ ap (λ words. closes_block r.geo words c.args.b) (done filled (omega arith))))
 
-pub entry_at-requires-clause-in_image : goal.entry_at-requires-clause-in_image
-entry_at-requires-clause-in_image c = found_inside _ _ _ c.requires.value
-
-pub program_entry-left_b-requires-clause-in_image : goal.program_entry-left_b-requires-clause-in_image
-program_entry-left_b-requires-clause-in_image c = found_inside _ _ _ c.requires.value
-
-pub program_within-left_d-requires : goal.program_within-left_d-requires
-program_within-left_d-requires c = omega (arith, inside (goal.at.program_within-left_d-requires c).After-entries_start, c.requires.shaped.long, (stored (goal.at.program_within-left_d-requires c).After-store_contents-left_c).long)
-
-pub program_within-left_e-requires : goal.program_within-left_e-requires
-program_within-left_e-requires c = omega (arith, inside (goal.at.program_within-left_e-requires c).After-entries_start, c.requires.shaped.long, (begun (goal.at.program_within-left_e-requires c).After-program_within-left_d).long)
-
-pub program_entry-left_f-requires-clause-in_image : goal.program_entry-left_f-requires-clause-in_image
-program_entry-left_f-requires-clause-in_image c = found_inside _ _ _ c.requires.value
-
-pub returns-then-left_f-eq0-clause-image_after : goal.returns-then-left_f-eq0-clause-image_after
-returns-then-left_f-eq0-clause-image_after c = let a = c.args in
-    (cut_short a.geo a.image.now a.n a.words.now a.b a.i a.most (six (goal.at.returns-then-left_f-eq0-clause-image_after c).After-program_entry-left_f) c.if-left_f-eq0.true).1
-
-pub returns-then-left_f-eq0-clause-value_2 : goal.returns-then-left_f-eq0-clause-value_2
-returns-then-left_f-eq0-clause-value_2 c = let a = c.args in
-    (cut_short a.geo a.image.now a.n a.words.now a.b a.i a.most (six (goal.at.returns-then-left_f-eq0-clause-value_2 c).After-program_entry-left_f) c.if-left_f-eq0.true).0
-
-pub close_block-requires-clause-b_value : goal.close_block-requires-clause-b_value
-close_block-requires-clause-b_value c = let a = c.args in
-    let p = filled-placed a.geo a.image.now a.n a.words.now a.b a.i (ready (goal.at.close_block-requires-clause-b_value c).After-shared_slice_known-1) (target (goal.at.close_block-requires-clause-b_value c).After-shared_slice_known-1) in
-    let maps = maps-kept a.geo a.image.now _ a.n a.words.now a.b a.i (ready (goal.at.close_block-requires-clause-b_value c).After-shared_slice_known-1) (target (goal.at.close_block-requires-clause-b_value c).After-shared_slice_known-1) p in
-    let block = c.requires.b_lt_blocks in
-    let whole = passed a.geo a.image.now a.most _ (six (goal.at.close_block-requires-clause-b_value c).After-program_entry-left_f) c.if-left_f-eq0.false in
-    rw whole (maps a.b block)
+pub returns-else-run-gt0 : goal.returns-else-run-gt0
+unfolding placing
+returns-else-run-gt0 c = none-left (six (goal.at.returns-else-run-gt0 c).After-program_entry-2) (omega arith) _
 
 pub close_block-requires-clause-none_superseded : goal.close_block-requires-clause-none_superseded
-close_block-requires-clause-none_superseded c = let a = c.args in
-    let p = filled-placed a.geo a.image.now a.n a.words.now a.b a.i (ready (goal.at.close_block-requires-clause-none_superseded c).After-shared_slice_known-1) (target (goal.at.close_block-requires-clause-none_superseded c).After-shared_slice_known-1) in
-    let maps = maps-kept a.geo a.image.now _ a.n a.words.now a.b a.i (ready (goal.at.close_block-requires-clause-none_superseded c).After-shared_slice_known-1) (target (goal.at.close_block-requires-clause-none_superseded c).After-shared_slice_known-1) p in
-    let block = c.requires.b_lt_blocks in
-    let whole = passed a.geo a.image.now a.most _ (six (goal.at.close_block-requires-clause-none_superseded c).After-program_entry-left_f) c.if-left_f-eq0.false in
-    rw whole p.current
+close_block-requires-clause-none_superseded c =
+    let r = c.args.run.now in
+    let sector = c.args.sector.now in
+    let start = (goal.at.close_block-requires-clause-none_superseded c).After-view in
+    let filled = six (goal.at.close_block-requires-clause-none_superseded c).After-program_entry-2 in
+    let p = filled-placed r.geo r.words.now sector.number sector.words.now c.args.b c.args.i (ready start) (target start) in
+    rw (filled.same_geo, done filled (omega arith)) p.current
 
-pub returns-clause-image_after : goal.returns-clause-image_after
-returns-clause-image_after c = let a = c.args in
-    (placed a.geo a.image.now a.n a.words.now a.b a.i a.most (six (goal.at.returns-clause-image_after c).After-program_entry-left_f) c.if-left_f-eq0.false (c.close_block.ensures.value, c.close_block.ensures.image_after)).1
-
-pub returns-clause-value_2 : goal.returns-clause-value_2
-returns-clause-value_2 c = let a = c.args in
-    (placed a.geo a.image.now a.n a.words.now a.b a.i a.most (six (goal.at.returns-clause-value_2 c).After-program_entry-left_f) c.if-left_f-eq0.false (c.close_block.ensures.value, c.close_block.ensures.image_after)).0
+pub close_block-requires-clause-b_value : goal.close_block-requires-clause-b_value
+close_block-requires-clause-b_value c =
+    let r = c.args.run.now in
+    let sector = c.args.sector.now in
+    let start = (goal.at.close_block-requires-clause-b_value c).After-view in
+    let filled = six (goal.at.close_block-requires-clause-b_value c).After-program_entry-2 in
+    let p = filled-placed r.geo r.words.now sector.number sector.words.now c.args.b c.args.i (ready start) (target start) in
+    let maps = maps-kept r.geo r.words.now _ sector.number sector.words.now c.args.b c.args.i (ready start) (target start) p in
+    rw (filled.same_geo, done filled (omega arith)) (maps c.args.b c.requires.b_lt_blocks)

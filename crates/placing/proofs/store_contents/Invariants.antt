@@ -1,8 +1,8 @@
 -- `placing::store_contents` meets its contract: the image is the one that the steps of the words passed leave, and as many are passed as are left.
 use mathlib.Core.List.{List}
 use mathlib.Core.Path.{◌≡◌}
-use Prim.Native.Nat.{ℕ, ◌-◌, ◌≤◌}
-use lib.ListN.{length, get_or}
+use Prim.Native.Nat.{ℕ}
+use lib.ListN.{get_or}
 use Rattle.ranges.specs.Range.{list_below}
 use Rattle.geometry.specs.declared.Geometry.{Geometry}
 use Rattle.geometry.specs.Places.{place, content_word}
@@ -15,13 +15,6 @@ use Rattle.placing.proofs.store_contents.Given as goal
 abbrev pub stores : Geometry → ℕ → ℕ → List ℕ → ℕ → List Step
 stores geo b i words m = list_below m (λ j. Program (place geo b (content_word geo i j)) (get_or words j 0))
 
--- The loop does not use the geometry, so the invariant speaks of any in which the contents start where the code has it.
+-- the image is the one that they leave
 abbrev pub invariant-loop-j : goal.invariant-loop-j
-invariant-loop-j l = (l.j ≤ l.stored)
-    × (length l.image ≡ length l.initial.image)
-    × ((geo : Geometry) →
-    l.at ≡ place geo l.b (content_word geo l.i 0) →
-    l.image ≡ run geo l.initial.image (stores geo l.b l.i l.words l.j))
-
-abbrev pub decreases-loop-j : goal.decreases-loop-j
-decreases-loop-j l = l.stored - l.j
+invariant-loop-j l = let r = l.fn.run in l.words ≡ run r.geo r.words.now (stores r.geo l.b l.i l.sector.words.now l.j)

@@ -1,6 +1,13 @@
 -- `records::write` meets its contract: the line is that of what the call answers, and the image is what it leaves.
+use mathlib.Core.Path.{ap, ◌∙◌}
+use Rattle.calls.specs.Outcomes.{outcome_of}
+use Rattle.calls.proofs.Told.{outcome-told, refused-write}
+use Rattle.records.specs.Records.{outcome_line}
 use Rattle.records.proofs.write.Goals as goal
 
 pub returns-clause-value : goal.returns-clause-value
-returns-clause-value c = let geo = c.script_geometry.ensures in
-    rw (c.outcome_line.ensures, c.write-done.ensures.value, geo)
+returns-clause-value c =
+    let geo = c.script_geometry.ensures in
+    c.outcome_line.ensures
+    ∙ ap (outcome_line 87 c.args.number)
+    (ap outcome_of (rw geo at c.write-done.ensures.value) ∙ outcome-told _ _ (refused-write _ _ c.args.number _))

@@ -1,31 +1,38 @@
 -- `repairing::copy_out` meets its contract: there is a block to copy to, and each slot has its turn; or nothing is live, so that nothing is copied.
 -- Assumes nothing.
-use mathlib.Core.Path.{◌≡◌, subst}
-use Prim.Native.Nat.{ℕ}
-use native.Mathlib.Omega.{arith}
-use Rattle.geometry.specs.declared.Geometry.{Geometry}
+use Rattle.std.proofs.Common.{◌≡◌, ◌<◌, sym, ap}
+use Rattle.ranges.proofs.Searches.{index-some, index-none}
 use Rattle.geometry.specs.Geometry.{d}
-use Rattle.image.specs.Words.{Image}
-use Rattle.image.specs.Blocks.{live_slots}
+use Rattle.image.specs.Blocks.{lowest_open}
+use Rattle.flash.specs.Runs.{of_run}
 use Rattle.flash.specs.Writing.{copying}
-use Rattle.flash.proofs.Parts.{Carried}
-use Rattle.flash.proofs.CodeLaws.{nothing-carried}
+use Rattle.flash.proofs.RunLaws.{nothing, as-steps}
 use Rattle.repairing.proofs.Carried.{no_copies}
+use Rattle.repairing.proofs.copy_out.Goals.{In-Some}
 use Rattle.repairing.proofs.copy_out.Goals as goal
 
-module _ (geo : Geometry) (image : Image) (v most : ℕ) where
-  none-carried : (t : ℕ) → live_slots geo image v ≡ 0 → Carried geo image most (copying geo image v t (d geo)) most image
-  none-carried t none = rw (no_copies geo image v t none) (nothing-carried geo image most)
+pub lowest_open-requires : goal.lowest_open-requires
+lowest_open-requires c = rw (c.view.ensures.words, c.view.ensures.geo) c.requires.maps_agree
 
-  into : {t open_block left : ℕ} {now : Image} →
-      t ≡ open_block →
-      Carried geo image most (copying geo image v t (d geo)) left now →
-      Carried geo image most (copying geo image v open_block (d geo)) left now
-  into {left = left} {now = now} e h = subst (λ (x : ℕ). Carried geo image most (copying geo image v x (d geo)) left now) e h
+-- the first open block, if there is one
+open_is : (c : In-Some) → let r = c.args.run.now in (of_run lowest_open r ≡ c.in-Some.t) × (c.in-Some.t < r.geo.blocks)
+open_is c = index-some (sym (rw (c.view.ensures.words, c.view.ensures.geo) at c.in-Some.ensures))
 
--- the clauses of the contract, of their product
-clauses : {A0 A1 : Type 0} → A0 × A1 → record { value : A0; image_after : A1 }
-clauses p = record { value = p.0; image_after = p.1 }
+pub copy_live-requires-clause-t_lt_blocks : goal.copy_live-requires-clause-t_lt_blocks
+copy_live-requires-clause-t_lt_blocks c = (open_is (goal.at.copy_live-requires-clause-t_lt_blocks c).In-Some).1
 
-pub returns-then-blocks-open : goal.returns-then-blocks-open
-returns-then-blocks-open c = clauses (none-carried _ _ _ _ _ (c.requires.v_value (omega (arith, c.lowest_open-open.ensures, c.if-blocks-open.true))))
+pub copy_live-requires-clause-each_in_turn : goal.copy_live-requires-clause-each_in_turn
+copy_live-requires-clause-each_in_turn c =
+    let found = open_is (goal.at.copy_live-requires-clause-each_in_turn c).In-Some in
+    rw (sym found.0) (c.requires.each_in_turn (rw found.0 found.1))
+
+pub returns-in-Some : goal.returns-in-Some
+returns-in-Some c =
+    let r = c.args.run.now in
+    as-steps c.copy_live.ensures.run_after (ap (λ t. of_run copying r c.args.v t (d r.geo)) (sym (open_is (goal.at.returns-in-Some c).In-Some).0))
+
+pub returns-in_default : goal.returns-in_default
+returns-in_default c =
+    let r = c.args.run.now in
+    let none = index-none (sym (rw (c.view.ensures.words, c.view.ensures.geo) at c.in_default.ensures)) in
+    rw (no_copies r.geo r.words.now c.args.v (of_run lowest_open r) (c.requires.v_value none)) (nothing _)

@@ -1,132 +1,100 @@
 -- `repairing::repair_along` meets its contract: behind (i) to (iii) the image is the one on which (iv) is told, and the plan says what is left to do there.
 -- Assumes nothing.
-use mathlib.Core.Path.{◌≡◌, sym, ◌∙◌}
-use mathlib.Core.Bool.{false, true≢false}
-use mathlib.Core.List.{◌++◌}
-use Prim.Native.Nat.{ℕ}
-use Rattle.geometry.specs.declared.Geometry.{Geometry}
-use Rattle.image.specs.Words.{Image, Shaped, Words32}
+use Rattle.std.proofs.Common.{false, ◌++◌, ◌≡◌, sym, ap, ◌∙◌, Ok}
+use mathlib.Core.List.{append-nil}
 use Rattle.image.specs.Blocks.{lowest_open}
 use Rattle.image.proofs.Facts.{sound-maps}
 use Rattle.image.proofs.Mending.{Mendable, mendable-facts}
-use Rattle.flash.specs.declared.Progress.{Progress}
-use Rattle.flash.specs.Steps.{erasures_in}
+use Rattle.flash.specs.Runs.{of_run}
+use Rattle.flash.specs.Steps.{erasures_in, first_of}
 use Rattle.flash.specs.Writing.{reclaiming}
 use Rattle.flash.specs.Repairing.{emptying, counted, repairing, lacks_room, victim_worn}
-use Rattle.flash.proofs.Parts.{Carried, passed}
-use Rattle.repairing.specs.declared.RepairPlan.TheVariants.{Mend, Empty}
-use Rattle.repairing.specs.Planned.{mending, repair_planned}
+use Rattle.flash.proofs.Parts.{erases-none-first}
+use Rattle.flash.proofs.RunLaws.{as-steps, both, none-left, done}
+use Rattle.repairing.specs.Planned.{Empty, mending, repair_planned}
 use Rattle.repairing.proofs.Mended.{counted_ready, repairing-parts, mending-leaves, mending-erasures}
-use Rattle.repairing.proofs.Decided.{not-refused, mend-says, empty-says, empty-in, empty-below, empty-in-turn, empty-none-live}
-use Rattle.repairing.proofs.Carried.{Reached, reached_then, reached-stopped, reached-none}
-use Rattle.repairing.proofs.repair_along.Goals.{After-slice_known-1}
+use Rattle.repairing.proofs.Decided.{is-planned, not-refused, mend-says, empty-says, empty-in, empty-below, empty-in-turn, empty-none-live}
+use Rattle.repairing.proofs.Carried.{erasures-behind, none-erased}
+use Rattle.repairing.proofs.repair_along.Goals.{After-mend, Else-run-eq0, In-Empty}
 use Rattle.repairing.proofs.repair_along.Goals as goal
 
--- what the contract asks, as the laws want it
-record Given (geo : Geometry) (image : Image) : Type 0 where
-  shaped : Shaped geo image
-  words : Words32 image
-  facts : Mendable geo image
-  roomy : lacks_room geo image ≡ false
-  wearable : victim_worn geo image ≡ false
+-- what the contract says, as the laws want it
+module _ (c : After-mend) where
+  facts : of_run Mendable c.args.run.now
+  facts = mendable-facts _ _ c.requires.image_value
 
-module _
-    (geo : Geometry) (image : Image) (g : Given geo image) (most : ℕ) {left : ℕ} {now : Image}
-    (first : Carried geo image most (mending geo image) left now)
-  where
-    parts : repairing geo image ≡ mending geo image ++ emptying geo (counted geo image)
-    parts = repairing-parts geo image g.shaped g.words g.facts
+  roomy : of_run lacks_room c.args.run.now ≡ false
+  roomy = (not-refused _ _ c.requires.plan_value).0
 
-    no-erasure : erasures_in (mending geo image) ≡ 0
-    no-erasure = mending-erasures geo image g.shaped g.words g.facts
+  wearable : of_run victim_worn c.args.run.now ≡ false
+  wearable = (not-refused _ _ c.requires.plan_value).1
 
-    -- none is left for (iv)
-    no-step-left : left ≡ 0 → Reached geo image most (repairing geo image) (record { left = 0; erasures = 0 }) now
-    no-step-left none = rw parts (reached-stopped geo image most (mending geo image) first no-erasure none (emptying geo (counted geo image)))
+  parts : let r = c.args.run.now in of_run repairing r ≡ of_run mending r ++ emptying r.geo (of_run counted r)
+  parts = repairing-parts _ _ c.args.run.now.shaped c.mend.ensures.words32 facts
 
-    -- (iv), as far as it was carried out
-    then-last :
-        {far : Progress} {after : Image} →
-        Reached geo now left (emptying geo (counted geo image)) far after →
-        Reached geo image most (repairing geo image) far after
-    then-last second = rw parts (reached_then geo image most (mending geo image) first no-erasure (emptying geo (counted geo image)) second)
+  no-erasure : erasures_in (of_run mending c.args.run.now) ≡ 0
+  no-erasure = mending-erasures _ _ c.args.run.now.shaped c.mend.ensures.words32 facts
 
-    -- a block is blank: there is nothing to it
-    then-nothing : Mend ≡ repair_planned geo image → Reached geo image most (repairing geo image) (record { left = left; erasures = 0 }) now
-    then-nothing plan =
-        then-last (rw (mend-says geo image g.shaped g.words g.facts g.roomy g.wearable plan) (reached-none geo now left))
+-- with a step left behind (iii), its image is the one that all of (i) to (iii) leave
+now-counted : (c : Else-run-eq0) → of_run Mendable c.args.run.now → c.mend.new.run.words.now ≡ of_run counted c.args.run.now
+now-counted c facts =
+    let r = c.args.run.now in
+    done c.mend.ensures.run_after c.if-run-eq0.false ∙ mending-leaves r.geo r.words.now r.shaped c.mend.ensures.words32 facts
 
-    -- a block is emptied, on the image that (iii) leaves
-    module _ (some : left ≡ 0 → ⊥) where
-      now-counted : now ≡ counted geo image
-      now-counted = passed geo image most (mending geo image) first some ∙ mending-leaves geo image g.shaped g.words g.facts
-
-      then-emptied :
-          {v : ℕ} {far : Progress} {after : Image} →
-          Empty v ≡ repair_planned geo image →
-          Reached geo now left (reclaiming geo now v (lowest_open geo now)) far after →
-          Reached geo image most (repairing geo image) far after
-      then-emptied {v} {far} {after} plan second =
-          let same : emptying geo (counted geo image) ≡ reclaiming geo now v (lowest_open geo now) =
-          rw now-counted (empty-says geo image g.shaped g.words g.facts g.roomy g.wearable plan) in
-          then-last (rw same second)
-
-given_so : (c : After-slice_known-1) → Given c.args.geo c.args.image.now
-given_so c =
+pub returns-then-run-eq0 : goal.returns-then-run-eq0
+returns-then-run-eq0 c =
+    let at = (goal.at.returns-then-run-eq0 c).After-mend in
     record {
-      shaped = c.requires.shaped;
-      words = record { small = λ q. (c.type_inv.image q).fits };
-      facts = mendable-facts _ _ c.requires.image_value;
-      roomy = c.requires.image_value_2;
-      wearable = c.requires.image_value_3;
+      value = rw (parts at) (none-erased c.mend.ensures.run_after (no-erasure at) c.if-run-eq0.true _);
+      run_after = rw (parts at) (none-left c.mend.ensures.run_after c.if-run-eq0.true _);
     }
 
--- the clauses of the contract, of their product
-clauses : {A0 A1 : Type 0} → A0 × A1 → record { value : A0; image_after : A1 }
-clauses p = record { value = p.0; image_after = p.1 }
+-- a block is blank: there is nothing to (iv)
+pub returns-in-Mend : goal.returns-in-Mend
+returns-in-Mend c =
+    let r = c.args.run.now in
+    let at = (goal.at.returns-in-Mend c).After-mend in
+    let plan = is-planned (of_run repair_planned r) (c.requires.plan_value ∙ ap Ok c.in-Mend.is) in
+    let no_more = mend-says r.geo r.words.now r.shaped c.mend.ensures.words32 (facts at) (roomy at) (wearable at) (sym plan) in
+    let all = parts at ∙ ap (of_run mending r ++◌) no_more ∙ append-nil (of_run mending r) in
+    record {
+      value = rw all (sym (erases-none-first r.left (of_run mending r) (no-erasure at)));
+      run_after = rw all c.mend.ensures.run_after;
+    }
 
-pub returns-then-left-eq0 : goal.returns-then-left-eq0
-returns-then-left-eq0 c = clauses (no-step-left _ _ (given_so (goal.at.returns-then-left-eq0 c).After-slice_known-1) _ (c.mend-left.ensures.value, c.mend-left.ensures.image_after) c.if-left-eq0.true)
-
--- the clauses of the contract, of their product
-clauses-2 : {A0 A1 A2 A3 A4 A5 : Type 0} → A0 × (A1 × (A2 × (A3 × (A4 × A5)))) → record { shaped : A0; maps_agree : A1; v_lt_blocks : A2; v_bound : A3; each_in_turn : A4; v_value : A5 }
-clauses-2 p = record { shaped = p.0; maps_agree = p.1.0; v_lt_blocks = p.1.1.0; v_bound = p.1.1.1.0; each_in_turn = p.1.1.1.1.0; v_value = p.1.1.1.1.1 }
+-- a block is emptied, on the image that (iii) leaves
+planned : (c : In-Empty) → Empty c.in-Empty.v ≡ of_run repair_planned c.args.run.now
+planned c = sym (is-planned (of_run repair_planned c.args.run.now) (c.requires.plan_value ∙ ap Ok c.in-Empty.is))
 
 pub empty-requires : goal.empty-requires
-empty-requires c = clauses-2 (let g = given_so (goal.at.empty-requires c).After-slice_known-1 in
-    let plan = sym c.in-Empty.is ∙ c.requires.plan_value in
-    let ready = counted_ready _ _ g.shaped g.words g.facts in
-    rw (now-counted _ _ g _ (c.mend-left.ensures.value, c.mend-left.ensures.image_after) c.if-left-eq0.false) (
-      ready.shaped,
-      (
-        sound-maps _ _ ready.sound,
-        (
-          empty-in _ _ g.shaped g.words g.facts g.roomy g.wearable plan,
-          (
-            empty-below _ _ g.shaped g.words g.facts g.roomy g.wearable plan,
-            (
-              empty-in-turn _ _ g.shaped g.words g.facts g.roomy g.wearable plan,
-              empty-none-live _ _ g.shaped g.words g.facts g.roomy g.wearable plan,
-            ),
-          ),
-        ),
-      ),
-    ))
-
-pub returns-in-Mend : goal.returns-in-Mend
-returns-in-Mend c = clauses (then-nothing _ _ (given_so (goal.at.returns-in-Mend c).After-slice_known-1) _ (c.mend-left.ensures.value, c.mend-left.ensures.image_after) (sym c.in-Mend.is ∙ c.requires.plan_value))
+empty-requires c =
+    let r = c.args.run.now in
+    let at = (goal.at.empty-requires c).After-mend in
+    let plan = planned (goal.at.empty-requires c).In-Empty in
+    let words = c.mend.ensures.words32 in
+    let geo = c.mend.ensures.run_after.same_geo in
+    let now = now-counted (goal.at.empty-requires c).Else-run-eq0 (facts at) in
+    record {
+      maps_agree = rw (geo, now) (sound-maps _ _ (counted_ready r.geo r.words.now r.shaped words (facts at)).sound);
+      v_lt_blocks = rw geo (empty-in r.geo r.words.now r.shaped words (facts at) (roomy at) (wearable at) plan);
+      v_bound = rw (geo, now) (empty-below r.geo r.words.now r.shaped words (facts at) (roomy at) (wearable at) plan);
+      each_in_turn = rw (geo, now) (empty-in-turn r.geo r.words.now r.shaped words (facts at) (roomy at) (wearable at) plan);
+      v_value = rw (geo, now) (empty-none-live r.geo r.words.now r.shaped words (facts at) (roomy at) (wearable at) plan);
+    }
 
 pub returns-in-Empty : goal.returns-in-Empty
-returns-in-Empty c = clauses (then-emptied _ _ (given_so (goal.at.returns-in-Empty c).After-slice_known-1) _ (c.mend-left.ensures.value, c.mend-left.ensures.image_after) c.if-left-eq0.false
-    (sym c.in-Empty.is ∙ c.requires.plan_value)
-    (c.empty.ensures.value, c.empty.ensures.image_after))
-
-pub returns-in-Cramped : goal.returns-in-Cramped
-returns-in-Cramped c = clauses (let g = given_so (goal.at.returns-in-Cramped c).After-slice_known-1 in
-    absurd
-    (true≢false (not-refused _ _ g.shaped g.words g.facts g.roomy g.wearable (sym c.in-Cramped.is ∙ c.requires.plan_value))))
-
-pub returns-in-Worn : goal.returns-in-Worn
-returns-in-Worn c = clauses (let g = given_so (goal.at.returns-in-Worn c).After-slice_known-1 in
-    absurd
-    (true≢false (not-refused _ _ g.shaped g.words g.facts g.roomy g.wearable (sym c.in-Worn.is ∙ c.requires.plan_value))))
+returns-in-Empty c =
+    let r = c.args.run.now in
+    let at = (goal.at.returns-in-Empty c).After-mend in
+    let first = c.mend.ensures.run_after in
+    let now = now-counted (goal.at.returns-in-Empty c).Else-run-eq0 (facts at) in
+    let v = c.in-Empty.v in
+    let last : of_run reclaiming c.mend.new.run v (of_run lowest_open c.mend.new.run) ≡ emptying r.geo (of_run counted r) =
+    rw (first.same_geo, now)
+    (sym (empty-says r.geo r.words.now r.shaped c.mend.ensures.words32 (facts at) (roomy at) (wearable at) (planned (goal.at.returns-in-Empty c).In-Empty))) in
+    record {
+      value =
+          rw (parts at)
+          (c.empty.ensures.value ∙ ap (λ steps. erasures_in (first_of c.mend.new.run.left steps)) last ∙ erasures-behind first (no-erasure at) _);
+      run_after = rw (parts at) (both first (as-steps c.empty.ensures.run_after last));
+    }

@@ -1,87 +1,51 @@
--- `restoring::restore_bounds` meets its contract: before each block the steps of those passed are all done and some are left, and the steps of this
--- one are as the first image tells; it stops where none is left. Assumes nothing.
-use mathlib.Core.Path.{◌≡◌, refl, ap, ◌∙◌}
-use mathlib.Core.Bool.{true}
-use mathlib.Core.List.{List}
-use Prim.Native.Nat.{ℕ, ◌-◌, ◌<◌}
-use native.Mathlib.Omega.{arith}
-use lib.ListN.{length}
-use Rattle.geometry.specs.declared.Geometry.{Geometry}
-use Rattle.image.specs.Words.{Image, Shaped}
-use Rattle.image.specs.WellFormed.{R2, NoneSuperseded}
-use Rattle.image.specs.Mending.{mendable}
+-- `restoring::restore_bounds` meets its contract: the steps of the blocks passed are carried out, as many as there are left, and those of the next are as
+-- the first image tells. Assumes nothing.
+use Rattle.std.proofs.Common.{◌≡◌, ap, ◌∙◌, arith}
 use Rattle.image.proofs.Mending.{mendable-facts}
-use Rattle.flash.specs.declared.Step.{Step}
-use Rattle.flash.specs.Steps.{run, first_of}
 use Rattle.flash.specs.Repairing.{bounding}
-use Rattle.flash.proofs.Parts.{Carried}
-use Rattle.flash.proofs.Joins.{Done, done-start, done-carried, done_next, done-stopped}
+use Rattle.flash.proofs.RunLaws.{as-steps, by-geo, done}
+use Rattle.flash.proofs.Joins.{none-joined, next-joined, joined-early}
 use Rattle.restoring.proofs.LowWords.{mendable-map}
 use Rattle.restoring.proofs.Bounded.{bounds, Bounding, bounding-first, bounds-then}
-use Rattle.restoring.proofs.restore_bounds.Goals.{After-restore_block-left}
+use Rattle.restoring.proofs.restore_bounds.Goals.{Else-run-eq0}
 use Rattle.restoring.proofs.restore_bounds.Goals as goal
 
 -- how things stand before block b
-module _
-    {geo : Geometry} {image₀ : Image} {most b : ℕ} {image : Image} {left : ℕ}
-    (before : Done geo image₀ most (bounds geo image₀) b image left)
-    (shaped : Shaped geo image₀)
-    (mends : mendable geo image₀ ≡ true)
-    (current : NoneSuperseded geo image₀)
-    (l : b < geo.blocks)
-  where
-    state : Bounding geo image₀ image
-    state = rw before.image-is (bounding-first geo image₀ shaped (mendable-facts geo image₀ mends) current b (omega arith))
-
-    maps : R2 geo image b ≡ true
-    maps = mendable-map geo image state.mendable b l
-
-    -- the steps that the code does there are those told from the first image
-    steps-same : bounds geo image b ≡ bounds geo image₀ b
-    steps-same =
-        ap (λ (x : Image). bounds geo x b) before.image-is
-        ∙ bounds-then geo image₀ shaped (mendable-facts geo image₀ mends) current b l
-
-    as-told :
-        {left' : ℕ} {image' : Image} →
-        Carried geo image left (bounds geo image b) left' image' →
-        Carried geo image left (bounds geo image₀ b) left' image'
-    as-told done = (
-      done.0 ∙ ap (λ (steps : List Step). left - length steps) steps-same,
-      done.1 ∙ ap (λ (steps : List Step). run geo image (first_of left steps)) steps-same,
-    )
+state : (c : Else-run-eq0) → let r = c.args.run.now in Bounding r.geo r.words.now c.loop-b.run.words.now
+state c =
+    let r = c.args.run.now in
+    rw (done c.loop-b.invariant.1 c.if-run-eq0.false)
+    (bounding-first r.geo r.words.now r.shaped (mendable-facts r.geo r.words.now c.requires.image_value) c.requires.none_superseded c.loop-b.b (omega arith))
 
 pub loop-b-init : goal.loop-b-init
-loop-b-init c = (omega arith, done-start _ _ _ _, refl)
+loop-b-init c = (omega arith, none-joined _ _)
 
-pub restore_block-left-requires-clause-b_value : goal.restore_block-left-requires-clause-b_value
-restore_block-left-requires-clause-b_value c = let v = c.loop-b.invariant.1 in
-    let now = state v c.requires.shaped c.requires.image_value c.requires.none_superseded (omega arith) in
-    maps v c.requires.shaped c.requires.image_value c.requires.none_superseded (omega arith)
-
-pub restore_block-left-requires-clause-none_superseded : goal.restore_block-left-requires-clause-none_superseded
-restore_block-left-requires-clause-none_superseded c = let v = c.loop-b.invariant.1 in
-    let now = state v c.requires.shaped c.requires.image_value c.requires.none_superseded (omega arith) in
-    now.current
-
-done : (c : After-restore_block-left) →
-    let a = c.args in
-    Carried a.geo c.loop-b.image c.loop-b.left (bounds a.geo a.image.now c.loop-b.b) c.restore_block-left.result c.restore_block-left.new.image
-done c =
-    as-told c.loop-b.invariant.1 c.requires.shaped c.requires.image_value c.requires.none_superseded (omega arith) (c.restore_block-left.ensures.value, c.restore_block-left.ensures.image_after)
-
--- the clauses of the contract, of their product
-clauses : {A0 A1 : Type 0} → A0 × A1 → record { value : A0; image_after : A1 }
-clauses p = record { value = p.0; image_after = p.1 }
-
-pub returns-then-left-eq0 : goal.returns-then-left-eq0
+pub returns-then-run-eq0 : goal.returns-then-run-eq0
 unfolding bounding
-returns-then-left-eq0 c = clauses (done-stopped _ _ _ _ c.loop-b.invariant.1 (done (goal.at.returns-then-left-eq0 c).After-restore_block-left) c.if-left-eq0.true _ (omega arith))
+returns-then-run-eq0 c = joined-early _ c.loop-b.invariant.1 c.if-run-eq0.true (omega arith)
+
+pub restore_block-requires-clause-none_superseded : goal.restore_block-requires-clause-none_superseded
+restore_block-requires-clause-none_superseded c =
+    rw (c.loop-b.invariant.1.same_geo) (state (goal.at.restore_block-requires-clause-none_superseded c).Else-run-eq0).current
+
+pub restore_block-requires-clause-b_value : goal.restore_block-requires-clause-b_value
+restore_block-requires-clause-b_value c =
+    let r = c.args.run.now in
+    rw (c.loop-b.invariant.1.same_geo)
+    (mendable-map r.geo c.loop-b.run.words.now (state (goal.at.restore_block-requires-clause-b_value c).Else-run-eq0).mendable c.loop-b.b c.loop-b-test.true)
 
 pub loop-b-preserved : goal.loop-b-preserved
-loop-b-preserved c = (omega arith, done_next _ _ _ _ c.loop-b.invariant.1 (done (goal.at.loop-b-preserved c).After-restore_block-left) c.if-left-eq0.false, c.restore_block-left.auto.image ∙ c.loop-b.invariant.2)
+loop-b-preserved c =
+    let r = c.args.run.now in
+    let now = c.loop-b.run in
+    let told = by-geo (λ geo. bounds geo now.words.now c.loop-b.b) c.restore_block.ensures c.loop-b.invariant.1.same_geo in
+    let same =
+    ap (λ image. bounds r.geo image c.loop-b.b) (done c.loop-b.invariant.1 c.if-run-eq0.false)
+    ∙ bounds-then r.geo r.words.now r.shaped (mendable-facts r.geo r.words.now c.requires.image_value) c.requires.none_superseded c.loop-b.b c.loop-b-test.true in
+    (omega arith, next-joined _ c.loop-b.invariant.1 (as-steps told same))
 
 pub returns : goal.returns
 unfolding bounding
-returns c = clauses (let end : c.loop-b.b ≡ c.args.geo.blocks = omega arith in
-    rw end at (done-carried _ _ _ _ c.loop-b.invariant.1))
+returns c =
+    let end : c.loop-b.b ≡ c.args.run.now.geo.blocks = omega arith in
+    rw end at c.loop-b.invariant.1

@@ -4,4 +4,4 @@ use Rattle.rules.proofs.RuleLaws.{greatest-read}
 use Rattle.rules.proofs.greatest_mapped.Goals as goal
 
 pub returns : goal.returns
-returns c = greatest-read _ _ c.args.b _ (omega arith)
+returns c = greatest-read _ _ c.args.block.now.index _ (omega arith)

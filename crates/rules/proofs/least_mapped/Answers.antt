@@ -4,4 +4,4 @@ use Rattle.rules.proofs.RuleLaws.{least-read}
 use Rattle.rules.proofs.least_mapped.Goals as goal
 
 pub returns : goal.returns
-returns c = least-read _ _ c.args.b _ (omega arith)
+returns c = least-read _ _ c.args.block.now.index _ (omega arith)

@@ -1,13 +1,12 @@
--- `rules::rule2` meets its contract: the rule is the two tests together, and the first that fails decides.
+-- `rules::rule2` meets its contract: it asks both.
+use Rattle.std.proofs.Common.{sym, ◌∙◌}
 use Rattle.image.specs.WellFormed.{R2}
 use Rattle.rules.proofs.rule2.Goals as goal
 
-pub returns-then-not-map_agrees : goal.returns-then-not-map_agrees
+pub returns-then-map_agrees : goal.returns-then-map_agrees
 unfolding R2
-returns-then-not-map_agrees c = rw (← c.map_agrees.ensures, c.if-not-map_agrees.true)
+returns-then-map_agrees c = rw (sym c.map_agrees.ensures ∙ c.if-map_agrees.true) c.rest_set.ensures
 
-pub returns : goal.returns
+pub returns-else-map_agrees : goal.returns-else-map_agrees
 unfolding R2
-returns c =
-    let first = c.map_agrees in
-    rw (← first.ensures, c.if-not-map_agrees.false) c.rest_set.ensures
+returns-else-map_agrees c = c.if-map_agrees.false ∙ sym (rw (sym c.map_agrees.ensures ∙ c.if-map_agrees.false))

@@ -39,17 +39,17 @@ small f blocks most b few each l passed here =
 
 -- the slots of one kind, in the blocks passed and in the block of this turn
 of-kind : (kind : Slot → Bool) (c : After-tally-slots) {s t : ℕ} →
-    let count : ℕ → ℕ = λ b. count_below (d c.args.geo) (λ i. kind (slot c.args.geo c.args.image.now b i)) in
+    let count : ℕ → ℕ = λ b. count_below (d c.args.image.now.geo) (λ i. kind (slot c.args.image.now.geo c.args.image.now.words.now b i)) in
     let b = c.loop-b.b in
     s ≡ sum_below b count →
     t ≡ count b →
     s + t ≤ 4032
 of-kind kind c =
-    let geo = c.args.geo in
-    let limits = c.requires.shaped.limits in
-    small (λ b. count_below (d geo) (λ i. kind (slot geo c.args.image.now b i))) _ 63 _
+    let geo = c.args.image.now.geo in
+    let limits = c.args.image.now.shaped.limits in
+    small (λ b. count_below (d geo) (λ i. kind (slot geo c.args.image.now.words.now b i))) _ 63 _
     limits.blocks_high
-    (λ b h. omega (arith, count-le (d geo) (λ i. kind (slot geo c.args.image.now b i)), d_small geo limits))
+    (λ b h. omega (arith, count-le (d geo) (λ i. kind (slot geo c.args.image.now.words.now b i)), d_small geo limits))
     c.loop-b-test.true
 
 -- the three sums over the blocks passed and the block of this turn
@@ -69,8 +69,8 @@ pub loop-b-init : goal.loop-b-init
 unfolding sum_below
 loop-b-init c = (omega arith, refl, refl, refl, refl)
 
-pub tally-slots-requires-clause-image_value : goal.tally-slots-requires-clause-image_value
-tally-slots-requires-clause-image_value c = formed-sound _ _ c.requires.image_value
+pub tally-slots-requires : goal.tally-slots-requires
+tally-slots-requires c = formed-sound _ _ c.requires
 
 pub overflow_add-mapped : goal.overflow_add-mapped
 overflow_add-mapped c = omega (arith, counted (goal.at.overflow_add-mapped c).After-tally-slots)
@@ -84,10 +84,10 @@ overflow_add-dead c = omega (arith, counted (goal.at.overflow_add-dead c).After-
 pub overflow_add-erase_sum : goal.overflow_add-erase_sum
 unfolding well_formed
 overflow_add-erase_sum c =
-    let facts = sound-facts _ _ (both-pass _ _ c.requires.image_value).0 in
+    let facts = sound-facts _ _ (both-pass _ _ c.requires).0 in
     omega (
       arith,
-      small _ _ ceiling c.loop-b.b c.requires.shaped.limits.blocks_high facts.worn c.loop-b-test.true c.loop-b.invariant.4 c.erase_count-erase_sum.ensures,
+      small _ _ ceiling c.loop-b.b c.args.image.now.shaped.limits.blocks_high facts.worn c.loop-b-test.true c.loop-b.invariant.4 c.erase_count-erase_sum.ensures,
     )
 
 pub loop-b-preserved : goal.loop-b-preserved

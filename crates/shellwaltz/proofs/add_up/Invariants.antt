@@ -9,10 +9,10 @@ use Rattle.shellwaltz.proofs.add_up.Given as goal
 
 abbrev pub invariant-loop-b : goal.invariant-loop-b
 invariant-loop-b l = (l.b ≤ l.blocks)
-    × (l.mapped ≡ sum_below l.b (live_slots l.geo l.image))
-    × (l.free ≡ sum_below l.b (free_slots l.geo l.image))
-    × (l.dead ≡ sum_below l.b (dead_slots l.geo l.image))
-    × (l.erase_sum ≡ sum_below l.b (erase_count l.geo l.image))
+    × (l.mapped ≡ sum_below l.b (live_slots l.image.geo l.image.words.now))
+    × (l.free ≡ sum_below l.b (free_slots l.image.geo l.image.words.now))
+    × (l.dead ≡ sum_below l.b (dead_slots l.image.geo l.image.words.now))
+    × (l.erase_sum ≡ sum_below l.b (erase_count l.image.geo l.image.words.now))
 
 abbrev pub decreases-loop-b : goal.decreases-loop-b
 decreases-loop-b l = l.blocks - l.b

@@ -1,23 +1,23 @@
 -- `shellwaltz::check` meets its contract: its tests are rows 1 and 4, asked in that order, and the first that applies is the answer.
-use Rattle.calls.specs.Refusals.{check_answer}
-use Rattle.calls.proofs.CallLaws.{as-tested, shaped-left, fault-applies, fault-passes, fault-named}
 use mathlib.Core.Bool.{not}
-use mathlib.Core.Path.{ap}
+use mathlib.Core.Path.{sym, ap, ◌∙◌}
+use Rattle.std.specs.Prelude.{Err}
+use Rattle.calls.specs.Refusals.{check_answer}
+use Rattle.calls.proofs.CallLaws.{fault-refuses, fault-passes}
 use Rattle.shellwaltz.proofs.check.Goals as goal
 
-pub returns-then-not-fits : goal.returns-then-not-fits
+pub returns-in_default : goal.returns-in_default
 unfolding check_answer
-returns-then-not-fits c = rw (as-tested c.fits.ensures (ap not c.if-not-fits.true))
+returns-in_default c = rw (ap not (sym c.in_default.ensures.fits))
 
-pub first_fault-fault-requires : goal.first_fault-fault-requires
-first_fault-fault-requires c = shaped-left _ _ (as-tested c.fits.ensures (ap not c.if-not-fits.false))
-
-pub returns-then-fault-ne0 : goal.returns-then-fault-ne0
+pub returns-in-Err : goal.returns-in-Err
 unfolding check_answer
-returns-then-fault-ne0 c =
-    let named = c.first_fault-fault.ensures in
-    rw (as-tested c.fits.ensures (ap not c.if-not-fits.false), fault-applies _ _ named c.if-fault-ne0.true) (fault-named _ _ named)
+returns-in-Err c =
+    let fault = sym (rw (c.in-Some.ensures.image.0, c.in-Some.ensures.image.1) at c.first_fault.ensures) ∙ c.in-Err.is in
+    ap Err c.from.ensures ∙ rw (ap not (sym c.in-Some.ensures.fits)) (sym (fault-refuses _ _ fault))
 
-pub returns : goal.returns
+pub returns-in-Ok : goal.returns-in-Ok
 unfolding check_answer
-returns c = rw (as-tested c.fits.ensures (ap not c.if-not-fits.false), fault-passes _ _ c.first_fault-fault.ensures c.if-fault-ne0.false)
+returns-in-Ok c =
+    let formed = sym (rw (c.in-Some.ensures.image.0, c.in-Some.ensures.image.1) at c.first_fault.ensures) ∙ c.in-Ok.is in
+    rw (ap not (sym c.in-Some.ensures.fits)) (sym (fault-passes _ _ formed))

@@ -1,13 +1,16 @@
 -- `shellwaltz_c::shellwaltz_check` meets its contract: it passes on what the call answers and leaves.
 use mathlib.Core.Path.{ap, ◌∙◌}
-use Rattle.answers.specs.Answers.{number_of}
-use Rattle.shellwaltz_c.proofs.SameCalls.{check-same, names}
+use Rattle.answers.specs.Answers.{number_of, block_of, rule_of}
+use Rattle.shellwaltz_c.proofs.SameCalls.{check-same}
 use Rattle.shellwaltz_c.proofs.shellwaltz_check.Goals as goal
 
--- the clauses of the contract, of their product
-clauses : {A0 A1 A2 : Type 0} → A0 × (A1 × A2) → record { value : A0; bad_block_after : A1; bad_rule_after : A2 }
-clauses p = record { value = p.0; bad_block_after = p.1.0; bad_rule_after = p.1.1 }
-
 pub returns : goal.returns
-returns c = clauses (let same = c.check-found.ensures ∙ check-same _ _ _ c.geometry.ensures _ in
-    (c.number.ensures ∙ ap number_of same, names c.bad_block.ensures c.bad_rule.ensures same))
+returns c =
+    let same = check-same _ _ _ c.geometry.ensures _ in
+    let answer = c.check-found.ensures ∙ same in
+    let tells = c.tell.ensures in
+    record {
+      value = tells.value ∙ ap number_of answer;
+      bad_block_after = tells.bad_block_after ∙ ap block_of answer;
+      bad_rule_after = tells.bad_rule_after ∙ ap rule_of answer;
+    }

@@ -1,10 +1,19 @@
 -- `shellwaltz_c::shellwaltz_format` meets its contract: it passes on what the call answers and leaves.
-use Rattle.shellwaltz_c.proofs.SameCalls.{format-same, parts}
+use mathlib.Core.Path.{ap, ◌∙◌}
+use Rattle.answers.specs.Answers.{number_of}
+use Rattle.calls.specs.Outcomes.{counts_of, outcome_of}
+use Rattle.calls.proofs.Told.{format-told}
+use Rattle.shellwaltz_c.proofs.SameCalls.{format-same}
 use Rattle.shellwaltz_c.proofs.shellwaltz_format.Goals as goal
 
--- the clauses of the contract, of their product
-clauses : {A0 A1 A2 A3 : Type 0} → A0 × (A1 × (A2 × A3)) → record { value : A0; image_after : A1; words_after : A2; erasures_after : A3 }
-clauses p = record { value = p.0; image_after = p.1.0; words_after = p.1.1.0; erasures_after = p.1.1.1 }
-
 pub returns : goal.returns
-returns c = clauses (parts c.number.ensures (c.format-made.ensures.value, c.format-made.ensures.image_after) (format-same _ _ _ c.geometry.ensures _))
+returns c =
+    let same = format-same _ _ _ c.geometry.ensures c.args.image.now in
+    let told = ap outcome_of (c.format-made.ensures.value ∙ ap counts_of same.0) ∙ format-told _ _ in
+    let tells = c.tell_counts.ensures in
+    record {
+      value = tells.value ∙ ap (λ o. number_of o.answer) told;
+      image_after = c.format-made.ensures.image_after ∙ same.1;
+      words_after = tells.words_after ∙ ap (λ o. o.words) told;
+      erasures_after = tells.erasures_after ∙ ap (λ o. o.erasures) told;
+    }

@@ -1,16 +1,23 @@
--- `shellwaltz_c::shellwaltz_report` meets its contract: it passes on what the call answers and leaves.
+-- `shellwaltz_c::shellwaltz_report` meets its contract: it passes on what the call answers, and its numbers.
 use mathlib.Core.Path.{ap, ◌∙◌}
-use Rattle.answers.specs.Answers.{number_of}
-use Rattle.shellwaltz_c.proofs.SameCalls.{report-same, names}
+use Rattle.answers.specs.Answers.{number_of, block_of, rule_of}
+use Rattle.calls.specs.Outcomes.{sums_of, totals_of_sums}
+use Rattle.calls.proofs.Told.{report-told}
+use Rattle.shellwaltz_c.proofs.SameCalls.{report-same}
 use Rattle.shellwaltz_c.proofs.shellwaltz_report.Goals as goal
 
--- the clauses of the contract, of their product
-clauses : {A0 A1 A2 A3 A4 A5 A6 : Type 0} → A0 × (A1 × (A2 × (A3 × (A4 × (A5 × A6))))) → record { value : A0; mapped_after : A1; free_after : A2; dead_after : A3; erase_sum_after : A4; bad_block_after : A5; bad_rule_after : A6 }
-clauses p = record { value = p.0; mapped_after = p.1.0; free_after = p.1.1.0; dead_after = p.1.1.1.0; erase_sum_after = p.1.1.1.1.0; bad_block_after = p.1.1.1.1.1.0; bad_rule_after = p.1.1.1.1.1.1 }
-
 pub returns : goal.returns
-returns c = clauses (let same = c.report-totals.ensures ∙ report-same _ _ _ c.geometry.ensures _ in
-    let pair = names c.bad_block.ensures c.bad_rule.ensures (ap (λ t. t.answer) same) in (
-      c.number.ensures ∙ ap (λ t. number_of t.answer) same,
-      (ap (λ t. t.mapped) same, (ap (λ t. t.free) same, (ap (λ t. t.dead) same, (ap (λ t. t.erase_sum) same, pair)))),
-    ))
+returns c =
+    let told =
+    ap totals_of_sums (c.report-added.ensures ∙ ap sums_of (report-same _ _ _ c.geometry.ensures c.args.image.now))
+    ∙ report-told _ _ in
+    let tells = c.tell_totals.ensures in
+    record {
+      value = tells.value ∙ ap (λ t. number_of t.answer) told;
+      mapped_after = tells.mapped_after ∙ ap (λ t. t.mapped) told;
+      free_after = tells.free_after ∙ ap (λ t. t.free) told;
+      dead_after = tells.dead_after ∙ ap (λ t. t.dead) told;
+      erase_sum_after = tells.erase_sum_after ∙ ap (λ t. t.erase_sum) told;
+      bad_block_after = tells.bad_block_after ∙ ap (λ t. block_of t.answer) told;
+      bad_rule_after = tells.bad_rule_after ∙ ap (λ t. rule_of t.answer) told;
+    }

@@ -1,11 +1,22 @@
 -- `shellwaltz_c::shellwaltz_write` meets its contract: it passes on what the call answers and leaves.
-use Rattle.shellwaltz_c.proofs.SameCalls.{write_same, parts-and-pair}
+use mathlib.Core.Path.{ap, ◌∙◌}
+use Rattle.answers.specs.Answers.{number_of, block_of, rule_of}
+use Rattle.calls.specs.Outcomes.{counts_of, outcome_of}
+use Rattle.calls.proofs.Told.{outcome-told, refused-write}
+use Rattle.shellwaltz_c.proofs.SameCalls.{write_same}
 use Rattle.shellwaltz_c.proofs.shellwaltz_write.Goals as goal
 
--- the clauses of the contract, of their product
-clauses : {A0 A1 A2 A3 A4 A5 : Type 0} → A0 × (A1 × (A2 × (A3 × (A4 × A5)))) → record { value : A0; image_after : A1; words_after : A2; erasures_after : A3; bad_block_after : A4; bad_rule_after : A5 }
-clauses p = record { value = p.0; image_after = p.1.0; words_after = p.1.1.0; erasures_after = p.1.1.1.0; bad_block_after = p.1.1.1.1.0; bad_rule_after = p.1.1.1.1.1 }
-
 pub returns : goal.returns
-returns c = clauses (parts-and-pair c.number.ensures c.bad_block.ensures c.bad_rule.ensures (c.write-wrote.ensures.value, c.write-wrote.ensures.image_after)
-    (write_same _ _ _ c.geometry.ensures _ _ _))
+returns c =
+    let a = c.args in
+    let same = write_same _ _ _ c.geometry.ensures a.image.now a.number a.buffer.now in
+    let told = ap outcome_of (c.write-wrote.ensures.value ∙ ap counts_of same.0) ∙ outcome-told _ _ (refused-write _ _ a.number a.buffer.now) in
+    let tells = c.tell_counts.ensures in
+    record {
+      value = tells.value ∙ ap (λ o. number_of o.answer) told;
+      image_after = c.write-wrote.ensures.image_after ∙ same.1;
+      words_after = tells.words_after ∙ ap (λ o. o.words) told;
+      erasures_after = tells.erasures_after ∙ ap (λ o. o.erasures) told;
+      bad_block_after = tells.bad_block_after ∙ ap (λ o. block_of o.answer) told;
+      bad_rule_after = tells.bad_rule_after ∙ ap (λ o. rule_of o.answer) told;
+    }

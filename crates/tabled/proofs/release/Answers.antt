@@ -1,25 +1,25 @@
 -- `tabled::release` meets its contract: a table of another length is refused, and else it releases as the call without one.
-use mathlib.Core.Path.{refl}
-use native.Mathlib.Omega.{arith}
+use mathlib.Core.Path.{sym, ◌∙◌}
+use Rattle.flash.proofs.Stores.{run_none}
 use Rattle.calls.specs.Calls.{release_steps}
 use Rattle.tabled.specs.Calls.{release_steps_with, release_table}
-use Rattle.calls.proofs.Changing.{by_number, left_alone}
 use Rattle.tabled.proofs.TableLaws.{lent-well, release-refused, release-alike}
 use Rattle.tabled.proofs.release.Goals as goal
 
--- the clauses of the contract, of their product
-clauses : {A0 A1 A2 : Type 0} → A0 × (A1 × A2) → record { value : A0; image_after : A1; table_after : A2 }
-clauses p = record { value = p.0; image_after = p.1.0; table_after = p.1.1 }
-
-pub returns-then-number-ne0 : goal.returns-then-number-ne0
+pub returns-in-Err : goal.returns-in-Err
 unfolding release_steps_with release_table
-returns-then-number-ne0 c = clauses (let args = c.args in
-    let asked = c.table_answer-lent.ensures in
-    let answer = release-refused args.geo args.image.now args.table.now asked c.number.ensures c.if-number-ne0.true args.n in
-    left_alone _ _ _ _ _ _ (λ s. s) refl answer (by_number answer (omega (arith, c.number.ensures, c.if-number-ne0.true))) c.refused.ensures)
+returns-in-Err c =
+    let refused = release-refused _ _ _ (sym c.check_table.ensures ∙ c.in-Err.is) c.args.n in
+    record {
+      value = rw refused;
+      image_after = rw refused (sym (run_none c.args.geo c.args.image.now));
+      table_after = rw refused;
+    }
 
 pub returns : goal.returns
 unfolding release_steps release_steps_with release_table
-returns c = clauses (let args = c.args in
-    let well = lent-well args.geo args.image.now args.table.now c.table_answer-lent.ensures c.number.ensures c.if-number-ne0.false in
-    rw (release-alike args.geo args.image.now args.table.now well.table_fits args.n) (c.release_by.ensures.value, (c.release_by.ensures.image_after, c.release_by.ensures.table_after)))
+returns c =
+    let well = lent-well _ _ _ (sym c.check_table.ensures ∙ c.in_default.is) in
+    let alike = release-alike c.args.geo c.args.image.now c.args.table.now well.table_fits c.args.n in
+    let done = c.release_by.ensures in
+    record { value = rw alike done.value; image_after = rw alike done.image_after; table_after = rw alike done.table_after }

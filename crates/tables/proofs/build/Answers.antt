@@ -12,19 +12,19 @@ loop-b-init c =
     let gone = c.forget in
     (omega arith, refl, gone.ensures ∙ rw c.requires.table_len)
 
-pub note_block-requires-clause-none_superseded : goal.note_block-requires-clause-none_superseded
-note_block-requires-clause-none_superseded c = (sound-facts _ _ c.requires.image_value).current
+pub note_block-requires : goal.note_block-requires
+note_block-requires c = rw c.block.ensures.image (sound-facts _ _ c.requires.image_value).current
 
 pub loop-b-preserved : goal.loop-b-preserved
 loop-b-preserved c =
     let noted = c.note_block in
     let l = c.loop-b in
-    (omega arith, noted.auto.table ∙ l.invariant.1, noted.ensures ∙ rw (blocks-next, ← l.invariant.2))
+    (omega arith, noted.auto.table ∙ l.invariant.1, noted.ensures ∙ rw (c.block.ensures.image, c.block.ensures.index, blocks-next, ← l.invariant.2))
 
 pub returns : goal.returns
 returns c =
     let l = c.loop-b in
-    let geo = c.args.geo in
-    let image = c.args.image.now in
+    let geo = c.args.image.now.geo in
+    let image = c.args.image.now.words.now in
     let end : l.b ≡ geo.blocks = omega arith in
     l.invariant.2 ∙ ap (blocks_noted geo image) end ∙ built-right geo image (sound-facts geo image c.requires.image_value)

@@ -1,56 +1,32 @@
--- `tables::confirmed` meets its contract: the slot that a word tells is one of its block, so its entry lies in the image where its block does.
-use mathlib.Core.Path.{refl, sym}
-use Prim.Native.Nat.{◌+◌, ◌/◌, ◌%◌, ◌<◌}
-use native.Mathlib.Omega.{arith}
-use lib.ListN.{length}
+-- `tables::confirmed` meets its contract: where b is a block of the image, the entry of its slot i says whether that is live for n.
+use Rattle.std.proofs.Common.{sym, ap, ◌≡◌, ◌∙◌, length, arith}
 use borrow.Author.Tests.{lt-ltb}
-use Rattle.bits.specs.Word.{is_set}
-use Rattle.geometry.specs.Geometry.{d}
-use Rattle.geometry.specs.Places.{place, map_word}
+use Rattle.geometry.specs.Places.{place, entry_word}
 use Rattle.geometry.proofs.Laws.{logical-small}
-use Rattle.image.specs.Words.{word}
+use Rattle.image.specs.Words.{map_bit, entry, entries}
+use Rattle.image.specs.Slots.{own_slot}
 use Rattle.image.proofs.Entries.{live_test}
 use Rattle.image.proofs.Own.{each-own}
-use Rattle.image.proofs.Reading.{entry-inside, own_read}
-use Rattle.tables.proofs.Laws.{told-slot}
-use Rattle.tables.proofs.confirmed.Goals.{After-entries_start}
+use Rattle.image.proofs.Places.{entries-long, entries-at}
 use Rattle.tables.proofs.confirmed.Goals as goal
 
--- past the test the entry lies in the image
-inside : (c : After-entries_start) →
-    let geo = c.args.geo in
-    c.entries_start.result + c.args.word % d geo < length c.args.image.now
-inside c =
-    let geo = c.args.geo in
-    let size = c.d-d.ensures in
-    let slot_of = told-slot geo c.requires.shaped.limits c.args.word in
-    let block : c.args.word / d geo < geo.blocks = rw size at c.if-blocks-b.false in
-    let from = rw size at c.entries_start.ensures in
-    omega (arith, from, entry-inside _ _ c.requires.shaped block slot_of)
+pub bounds-entries-i : goal.bounds-entries-i
+bounds-entries-i c =
+    let geo = c.args.image.now.geo in
+    let image = c.args.image.now.words.now in
+    let from : c.entries.result.now ≡ entries geo image c.args.b = c.entries.ensures ∙ rw (c.block.ensures.image, c.block.ensures.index) in
+    omega (arith, c.requires.i_bound, ap length from, entries-long geo image c.args.image.now.shaped {b = c.args.b} c.if-b-image.true)
 
-pub overflow_add-at : goal.overflow_add-at
-overflow_add-at c = rw c.d-d.ensures (omega (arith, inside (goal.at.overflow_add-at c).After-entries_start))
-
-pub offset_bounds-image-at : goal.offset_bounds-image-at
-offset_bounds-image-at c = rw c.d-d.ensures (omega (arith, inside (goal.at.offset_bounds-image-at c).After-entries_start))
-
-pub bounds-image-at : goal.bounds-image-at
-bounds-image-at c = rw c.d-d.ensures (omega (arith, inside (goal.at.bounds-image-at c).After-entries_start))
-
-pub returns : goal.returns
-returns c =
-    let geo = c.args.geo in
-    let image = c.args.image.now in
-    let size = c.d-d.ensures in
-    let block : c.args.word / d geo < geo.blocks = rw size at c.if-blocks-b.false in
-    let i = c.args.word % d geo in
-    let at = c.entries_start.result + i in
-    let map = place geo (c.args.word / d geo) (map_word i) in
-    let from = rw size at c.entries_start.ensures in
-    rw (lt-ltb _ _ block, c.clear_bit.ensures, size, each-own c.requires.none_superseded block (told-slot geo c.requires.shaped.limits c.args.word))
-    (rw (← own_read geo image (c.args.word / d geo) i at map (omega (arith, from)) refl)
+pub returns-then-b-image : goal.returns-then-b-image
+unfolding own_slot entry
+returns-then-b-image c =
+    let a = c.args in
+    let geo = a.image.now.geo in
+    let image = a.image.now.words.now in
+    rw (lt-ltb _ _ c.if-b-image.true, each-own c.requires.none_superseded {b = a.b} {i = a.i} c.if-b-image.true c.requires.i_bound)
+    (rw (c.is_live_for.ensures, c.entries.ensures, c.block.ensures.image, c.block.ensures.index, entries-at geo image a.b a.i c.requires.i_bound)
     (sym
-    (live_test geo.logical (is_set (word image map) (i % 32)) (word image at) c.args.n
-    (c.type_inv.image at).fits
+    (live_test geo.logical (map_bit geo image a.b a.i) (entry geo image a.b a.i) a.n
+    (a.image.now.words32.small (place geo a.b (entry_word geo a.i)))
     c.requires.n_lt_logical
-    (omega (arith, logical-small geo c.requires.shaped.limits)))))
+    (omega (arith, logical-small geo a.image.now.shaped.limits)))))

@@ -12,12 +12,12 @@ confirmed-requires-clause-none_superseded c = (sound-facts _ _ c.requires.image_
 
 pub returns-then-confirmed : goal.returns-then-confirmed
 returns-then-confirmed c =
-    let geo = c.args.geo in
+    let geo = c.args.image.now.geo in
+    let image = c.args.image.now.words.now in
     let says = both-pass _ _ (sym c.confirmed.ensures ∙ c.if-confirmed.true) in
-    rw c.d-d.ensures
-    (sym
-    (live-found geo c.args.image.now (sound-facts geo c.args.image.now c.requires.image_value).once c.args.n _ _
-    (record { block = ltb-true _ _ says.0; slot_is = told-slot geo c.requires.shaped.limits _; live = live-for _ _ says.1 })))
+    sym
+    (live-found geo image (sound-facts geo image c.requires.image_value).once c.args.n _ _
+    (record { block = ltb-true _ _ says.0; slot_is = rw c.d-d.ensures (told-slot geo c.args.image.now.shaped.limits _); live = live-for _ _ says.1 }))
 
 pub find-requires-clause-none_superseded : goal.find-requires-clause-none_superseded
 find-requires-clause-none_superseded c = (sound-facts _ _ c.requires.image_value).current

@@ -13,13 +13,13 @@ returns-then-s-eq0 c =
     refl
 
 pub overflow_add-at-then-s-eq1 : goal.overflow_add-at-then-s-eq1
-overflow_add-at-then-s-eq1 c = omega (arith, c.entries_start.ensures, found-place-small c.args.geo c.requires.limits c.requires.in_image c.in-At.is)
+overflow_add-at-then-s-eq1 c = omega (arith, c.entries_start.ensures, found-place-small c.args.geo c.requires.limits c.requires.placeable.old_is c.in-Some.is)
 
 pub returns-then-s-eq1 : goal.returns-then-s-eq1
 returns-then-s-eq1 c =
     let a = c.args in
     outdate-step a.geo a.p a.s a.words.now _ _ _ _
-    c.in-At.is
+    c.in-Some.is
     c.if-s-eq1.true
     (omega (arith, c.entries_start.ensures))
     c.clear_bit.ensures
@@ -27,9 +27,9 @@ returns-then-s-eq1 c =
 pub returns-else-s-eq1 : goal.returns-else-s-eq1
 returns-else-s-eq1 c =
     let a = c.args in
-    after-outdated a.geo a.p a.s a.words.now _ _ _ c.in-At.is c.step_from_contents.ensures (omega arith)
+    after-outdated a.geo a.p a.s a.words.now _ _ _ c.in-Some.is c.step_from_contents.ensures (omega arith)
 
-pub returns-in-Nothing : goal.returns-in-Nothing
-returns-in-Nothing c =
+pub returns-in-None : goal.returns-in-None
+returns-in-None c =
     let a = c.args in
-    none-outdated a.geo a.p a.s a.words.now _ c.in-Nothing.is c.step_from_contents-in-Nothing.ensures (omega arith)
+    none-outdated a.geo a.p a.s a.words.now _ c.in-None.is c.step_from_contents-in-None.ensures (omega arith)

@@ -10,10 +10,10 @@ use Rattle.ahead.proofs.placements.step_behind.Goals as goal
 
 -- a number fits beside the three bits of an entry
 number_small : (c : Start) → c.args.p.number < 2 ^ 29
-number_small c = omega (arith, logical-small c.args.geo c.requires.limits, c.requires.number_lt_logical)
+number_small c = omega (arith, logical-small c.args.geo c.requires.limits, c.requires.placeable.number_is)
 
 pub overflow_add-entry : goal.overflow_add-entry
-overflow_add-entry c = omega (arith, c.entries_start.ensures, entry-small c.args.geo c.requires.limits c.requires.block_lt_blocks c.requires.slot_bound)
+overflow_add-entry c = omega (arith, c.entries_start.ensures, entry-small c.args.geo c.requires.limits c.requires.placeable.block_is c.requires.placeable.slot_is)
 
 pub returns-then-s-eq0 : goal.returns-then-s-eq0
 returns-then-s-eq0 c =
@@ -32,13 +32,13 @@ returns-then-s-eq1 c =
     (omega arith)
 
 pub overflow_add-at : goal.overflow_add-at
-overflow_add-at c = omega (arith, c.entries_start-then-s-eq2.ensures, found-place-small c.args.geo c.requires.limits c.requires.in_image c.in-At.is)
+overflow_add-at c = omega (arith, c.entries_start-then-s-eq2.ensures, found-place-small c.args.geo c.requires.limits c.requires.placeable.old_is c.in-Some.is)
 
 pub returns-then-s-eq2 : goal.returns-then-s-eq2
 returns-then-s-eq2 c =
     let a = c.args in
     retire-step a.geo a.p a.s _ _ _ _
-    c.in-At.is
+    c.in-Some.is
     c.if-s-eq2.true
     (omega (arith, c.entries_start-then-s-eq2.ensures))
     (c.clear_bit-invalid.ensures ∙ ap (λ (w : ℕ). cleared w 31) c.clear_bit.ensures)
@@ -46,9 +46,9 @@ returns-then-s-eq2 c =
 pub returns-else-s-eq2 : goal.returns-else-s-eq2
 returns-else-s-eq2 c =
     let a = c.args in
-    after-retired a.geo a.p a.s _ _ _ c.in-At.is c.closing_step.ensures (omega arith)
+    after-retired a.geo a.p a.s _ _ _ c.in-Some.is c.closing_step.ensures (omega arith)
 
-pub returns-in-Nothing : goal.returns-in-Nothing
-returns-in-Nothing c =
+pub returns-in-None : goal.returns-in-None
+returns-in-None c =
     let a = c.args in
-    none-retired a.geo a.p a.s _ c.in-Nothing.is c.closing_step-in-Nothing.ensures (omega arith)
+    none-retired a.geo a.p a.s _ c.in-None.is c.closing_step-in-None.ensures (omega arith)

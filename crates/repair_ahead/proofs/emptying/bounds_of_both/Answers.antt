@@ -1,63 +1,34 @@
 -- `repair_ahead::emptying::bounds_of_both` meets its contract: the bounds of two blocks from those of each. Assumes nothing.
-use mathlib.Core.Path.{◌≡◌, sym, ap, ap₂, ◌∙◌}
-use mathlib.Core.Bool.{Bool, false}
-use Prim.Native.Nat.{ℕ, ◌<◌}
-use native.Mathlib.Omega.{arith}
-use Rattle.ranges.specs.Range.{or_at, first_below, last_below}
+use Rattle.std.proofs.Common.{false, ◌≡◌, sym, ap, ◌∙◌, arith}
 use Rattle.ranges.proofs.Searches.{best-le}
-use Rattle.image.specs.Slots.{live_in}
-use Rattle.flash.specs.declared.LiveBounds.{LiveBounds}
-use Rattle.flash.specs.Placing.{least_live, greatest_live}
-use Rattle.placing.specs.Bounds.{bounds_of}
-use Rattle.repair_ahead.proofs.BothLaws.{second_none, greatest-below, joined}
-use Rattle.repair_ahead.proofs.emptying.bounds_of_both.Goals.{After-judged_bounds-moved, Else-moved-logical}
+use Rattle.image.specs.declared.view.View.{View}
+use Rattle.image.specs.Slots.{slot, live_in}
+use Rattle.placing.specs.Bounds.{bounds_of, bounds_among}
+use Rattle.placing.proofs.BoundLaws.{bounds-none}
+use Rattle.repair_ahead.proofs.BothLaws.{both-widened, second_none}
+use Rattle.repair_ahead.proofs.emptying.bounds_of_both.Goals.{After-live_bounds-there}
 use Rattle.repair_ahead.proofs.emptying.bounds_of_both.Goals as goal
 
--- the bounds of one block, as those of a test
-module _ (c : After-judged_bounds-moved) where
-  abbrev logical : ℕ
-  logical = c.args.geo.logical
+-- the bounds of the target, of the image that the victim is of
+there : (c : After-live_bounds-there) →
+    let v = c.args.victim.now.block in
+    c.live_bounds-there.result ≡ bounds_among v.image.geo (slot v.image.geo v.image.words.now c.args.target.now.block.index)
+there c =
+    c.live_bounds-there.ensures
+    ∙ ap (λ (image : View). bounds_among image.geo (slot image.geo image.words.now c.args.target.now.block.index)) c.requires
 
-  -- the numbers that are live in t, and in v
-  abbrev staying : ℕ → Bool
-  staying = live_in c.args.geo c.args.image.now c.args.t
+pub returns-in-Some : goal.returns-in-Some
+returns-in-Some c =
+    let v = c.args.victim.now.block in
+    both-widened v.image.geo.logical (live_in v.image.geo v.image.words.now c.args.target.now.block.index) (live_in v.image.geo v.image.words.now v.index)
+    (there (goal.at.returns-in-Some c).After-live_bounds-there) (sym c.in-Some.is ∙ c.live_bounds.ensures) c.widened.ensures c.widened-in-Some.ensures
 
-  abbrev moving : ℕ → Bool
-  moving = live_in c.args.geo c.args.image.now c.args.v
-
-  there : c.judged_bounds-there.result ≡ bounds_of logical staying
-  unfolding least_live greatest_live
-  there = c.judged_bounds-there.ensures
-
-  moved : c.judged_bounds-moved.result ≡ bounds_of logical moving
-  unfolding least_live greatest_live
-  moved = c.judged_bounds-moved.ensures
-
-  least-is : c.judged_bounds-moved.result.least ≡ first_below logical moving
-  least-is = ap (λ (x : LiveBounds). x.least) moved
-
-  greatest-is : c.judged_bounds-moved.result.greatest ≡ last_below logical moving
-  greatest-is = ap (λ (x : LiveBounds). x.greatest) moved
-
--- where a number is live in v, the least of them is one
-some : (c : Else-moved-logical) → first_below (logical (record { before = c.before.before.before; type_inv = record { completes = c.type_inv.completes; image = c.type_inv.image } })) (moving (record { before = c.before.before.before; type_inv = record { completes = c.type_inv.completes; image = c.type_inv.image } })) < logical (record { before = c.before.before.before; type_inv = record { completes = c.type_inv.completes; image = c.type_inv.image } })
-some c =
-    omega (arith, c.if-moved-logical.false, least-is (record { before = c.before.before.before; type_inv = record { completes = c.type_inv.completes; image = c.type_inv.image } }), best-le (λ i r. false) (logical (record { before = c.before.before.before; type_inv = record { completes = c.type_inv.completes; image = c.type_inv.image } })) (moving (record { before = c.before.before.before; type_inv = record { completes = c.type_inv.completes; image = c.type_inv.image } })))
-
-pub returns-then-moved-logical : goal.returns-then-moved-logical
-returns-then-moved-logical c = there (goal.at.returns-then-moved-logical c).After-judged_bounds-moved ∙ second_none (logical (goal.at.returns-then-moved-logical c).After-judged_bounds-moved) (staying (goal.at.returns-then-moved-logical c).After-judged_bounds-moved) (moving (goal.at.returns-then-moved-logical c).After-judged_bounds-moved) (sym (least-is (goal.at.returns-then-moved-logical c).After-judged_bounds-moved) ∙ c.if-moved-logical.true)
-
-pub widened-requires : goal.widened-requires
-widened-requires c = omega (arith, least-is (goal.at.widened-requires c).After-judged_bounds-moved, some (goal.at.widened-requires c).Else-moved-logical)
-
-pub widened-requires-2 : goal.widened-requires-2
-widened-requires-2 c = omega (
-  arith,
-  greatest-is (goal.at.widened-requires-2 c).After-judged_bounds-moved,
-  greatest-below (logical (goal.at.widened-requires-2 c).After-judged_bounds-moved) (staying (goal.at.widened-requires-2 c).After-judged_bounds-moved) (moving (goal.at.widened-requires-2 c).After-judged_bounds-moved) (some (goal.at.widened-requires-2 c).Else-moved-logical),
-)
-
-pub returns : goal.returns
-returns c = c.widened-2.ensures _ (c.widened.ensures _ (there (goal.at.returns c).After-judged_bounds-moved))
-    ∙ ap₂ (λ (x y : ℕ). bounds_of (logical (goal.at.returns c).After-judged_bounds-moved) (or_at (or_at (staying (goal.at.returns c).After-judged_bounds-moved) x) y)) (least-is (goal.at.returns c).After-judged_bounds-moved) (greatest-is (goal.at.returns c).After-judged_bounds-moved)
-    ∙ joined (logical (goal.at.returns c).After-judged_bounds-moved) (staying (goal.at.returns c).After-judged_bounds-moved) (moving (goal.at.returns c).After-judged_bounds-moved) (some (goal.at.returns c).Else-moved-logical)
+pub returns-in-None : goal.returns-in-None
+returns-in-None c =
+    let v = c.args.victim.now.block in
+    let m = v.image.geo.logical in
+    let staying = live_in v.image.geo v.image.words.now c.args.target.now.block.index in
+    let moving = live_in v.image.geo v.image.words.now v.index in
+    c.or_logical.ensures staying (there (goal.at.returns-in-None c).After-live_bounds-there)
+    ∙ second_none m staying moving
+    (omega (arith, bounds-none m (bounds_of m moving) (sym c.in-None.is ∙ c.live_bounds.ensures), best-le (λ i r. false) m moving))

@@ -1,31 +1,44 @@
 -- `repair_ahead::parts::mended_step` meets its contract: each part is asked for what lies behind the one before it.
-use mathlib.Core.List.{List, ◌++◌}
-use mathlib.Core.Path.{◌≡◌, sym, ◌∙◌}
-use Rattle.flash.specs.declared.Step.{Step}
-use Rattle.flash.specs.Repairing.{clearing, bounding, counting}
+use Rattle.std.proofs.Common.{◌≡◌, sym, ◌∙◌, ◌++◌, rules}
+use Rattle.ranges.specs.Range.{join_below}
+use Rattle.geometry.specs.Geometry.{d}
+use Rattle.flash.specs.Repairing.{clears_slot, sets_least, sets_greatest, sets_count, clearing, bounding, counting}
 use Rattle.repair_ahead.specs.Sought.{sought}
 use Rattle.repair_ahead.proofs.SoughtLaws.{in-first, in-second}
-use Rattle.repair_ahead.proofs.parts.mended_step.Goals.{After-part_step-in-Behind}
+use Rattle.repair_ahead.proofs.parts.mended_step.Goals.{After-step_among-retired, After-step_among-bounded, After-step_among}
 use Rattle.repair_ahead.proofs.parts.mended_step.Goals as goal
 
--- what is sought lies behind (i)
-module _ (c : After-part_step-in-Behind) where
-  abbrev rest : List Step
-  rest = bounding c.args.geo c.args.image.now ++ counting c.args.geo c.args.image.now
-
-  passed : sought (clearing c.args.geo c.args.image.now ++ rest) c.args.i ≡ sought rest c.in-Behind.j
-  unfolding clearing
-  passed = in-second _ _ _ (sym c.part_step.ensures ∙ c.in-Behind.is)
-
-pub returns-in-Found : goal.returns-in-Found
+-- what each of the three tells
+retired : (c : After-step_among-retired) → let image = c.args.image.now in c.step_among-retired.result ≡ sought (clearing image.geo image.words.now) c.args.i
 unfolding clearing
-returns-in-Found c = sym (in-first _ _ _ (sym c.part_step.ensures ∙ c.in-Found.is))
+retired c =
+    let image = c.args.image.now in
+    c.step_among-retired.ensures (λ b. join_below (d image.geo) (clears_slot image.geo image.words.now b)) (λ k b r l p. search rules)
 
-pub returns-in-Found-part_step : goal.returns-in-Found-part_step
+bounded : (c : After-step_among-bounded) → let image = c.args.image.now in c.step_among-bounded.result ≡ sought (bounding image.geo image.words.now) c.in-Continue.j
 unfolding bounding
-returns-in-Found-part_step c = sym (passed (goal.at.returns-in-Found-part_step c).After-part_step-in-Behind ∙ in-first _ _ _ (sym c.part_step-in-Behind.ensures ∙ c.in-Found-part_step.is))
+bounded c =
+    let image = c.args.image.now in
+    c.step_among-bounded.ensures (λ b. sets_least image.geo image.words.now b ++ sets_greatest image.geo image.words.now b) (λ k b r l p. search rules)
 
-pub returns-in-Behind-part_step : goal.returns-in-Behind-part_step
-unfolding bounding counting
-returns-in-Behind-part_step c = c.part_step-in-Behind-part_step.ensures
-    ∙ sym (passed (goal.at.returns-in-Behind-part_step c).After-part_step-in-Behind ∙ in-second _ _ _ (sym c.part_step-in-Behind.ensures ∙ c.in-Behind-part_step.is))
+counted : (c : After-step_among) → let image = c.args.image.now in c.step_among.result ≡ sought (counting image.geo image.words.now) c.in-Continue-bounded.k
+unfolding counting
+counted c = let image = c.args.image.now in c.step_among.ensures (sets_count image.geo image.words.now) (λ k b r l p. search rules)
+
+pub returns-in_default : goal.returns-in_default
+returns-in_default c =
+    c.in_default.is ∙ sym (in-first _ _ _ (sym (retired (goal.at.returns-in_default c).After-step_among-retired) ∙ c.in_default.is))
+
+pub returns-in_default-bounded : goal.returns-in_default-bounded
+returns-in_default-bounded c =
+    c.in_default-bounded.is
+    ∙ sym
+    (in-second _ _ _ (sym (retired (goal.at.returns-in_default-bounded c).After-step_among-retired) ∙ c.in-Continue.is)
+    ∙ in-first _ _ _ (sym (bounded (goal.at.returns-in_default-bounded c).After-step_among-bounded) ∙ c.in_default-bounded.is))
+
+pub returns : goal.returns
+returns c =
+    counted (goal.at.returns c).After-step_among
+    ∙ sym
+    (in-second _ _ _ (sym (retired (goal.at.returns c).After-step_among-retired) ∙ c.in-Continue.is)
+    ∙ in-second _ _ _ (sym (bounded (goal.at.returns c).After-step_among-bounded) ∙ c.in-Continue-bounded.is))

@@ -1,32 +1,26 @@
 -- `repair_ahead::retires::retire_slot` meets its contract: it reads the entry where the definition has it.
-use mathlib.Core.Path.{◌≡◌, ◌∙◌}
-use Prim.Native.Nat.{◌+◌, ◌<◌}
-use native.Mathlib.Omega.{arith}
-use lib.ListN.{length}
+use Rattle.std.proofs.Common.{◌≡◌, ap, ◌∙◌, ◌+◌, arith, length, get_or}
 use Rattle.geometry.specs.Places.{place, entry_word}
 use Rattle.image.specs.Words.{entry}
-use Rattle.image.proofs.Reading.{entry-inside}
-use Rattle.repair_ahead.proofs.retires.retire_slot.Goals.{After-entries_start}
+use Rattle.ahead.proofs.PlacementLaws.{entry-small}
+use Rattle.image.proofs.Places.{entries-long, entries-at}
 use Rattle.repair_ahead.proofs.retires.retire_slot.Goals as goal
 
--- the entry lies in the image
-room : (c : After-entries_start)
-    → place c.args.geo c.args.b (entry_word c.args.geo c.args.slot) < length c.args.image.now
-room c = entry-inside _ _ c.requires.shaped c.requires.b_lt_blocks c.requires.slot_bound
-
 pub overflow_add-at : goal.overflow_add-at
-overflow_add-at c = omega (arith, room (goal.at.overflow_add-at c).After-entries_start)
+overflow_add-at c =
+    let b = c.args.judged.now.block in
+    omega (arith, c.entries_start.ensures, entry-small b.image.geo b.image.shaped.limits b.in_image c.requires)
 
-pub offset_bounds-image-at : goal.offset_bounds-image-at
-offset_bounds-image-at c = omega (arith, room (goal.at.offset_bounds-image-at c).After-entries_start)
-
-pub bounds-image-at : goal.bounds-image-at
-bounds-image-at c = omega (arith, room (goal.at.bounds-image-at c).After-entries_start)
+pub bounds-entries-slot : goal.bounds-entries-slot
+bounds-entries-slot c =
+    let b = c.args.judged.now.block in
+    omega (arith, c.requires, ap length c.entries.ensures, entries-long b.image.geo b.image.words.now b.image.shaped b.in_image)
 
 pub returns : goal.returns
-unfolding entry
 returns c =
-    let a = c.args in
-    let at : c.entries_start.result + a.slot ≡ place a.geo a.b (entry_word a.geo a.slot) = omega arith in
+    let b = c.args.judged.now.block in
+    let at : c.entries_start.result + c.args.slot ≡ place b.image.geo b.index (entry_word b.image.geo c.args.slot) = omega (arith, c.entries_start.ensures) in
+    let read : get_or c.entries.result.now c.args.slot 0 ≡ entry b.image.geo b.image.words.now b.index c.args.slot =
+    ap (λ ws. get_or ws c.args.slot 0) c.entries.ensures ∙ entries-at b.image.geo b.image.words.now b.index c.args.slot c.requires in
     c.single_step.ensures
-    ∙ rw (c.clear_bit.ensures, at, c.is_superseded-superseded.ensures)
+    ∙ rw (c.clear_bit.ensures, at, read, c.is_superseded.ensures)

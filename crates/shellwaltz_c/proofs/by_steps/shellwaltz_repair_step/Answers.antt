@@ -1,13 +1,22 @@
 -- `shellwaltz_c::by_steps::shellwaltz_repair_step` meets its contract: it passes on what the call answers and which step it gives.
-use mathlib.Core.Path.{◌∙◌}
-use Rattle.shellwaltz_c.proofs.SameCalls.{repair-step-same, step-and-pair}
+use mathlib.Core.Path.{ap, ◌∙◌}
+use Rattle.answers.specs.Answers.{number_of, block_of, rule_of}
+use Rattle.stepwise.specs.Calls.{step_of}
+use Rattle.calls.proofs.Told.{refused-repair}
+use Rattle.shellwaltz_c.specs.Told.{kind_of, place_of, word_of}
+use Rattle.shellwaltz_c.proofs.SameCalls.{repair-step-same, step-told, no-step}
 use Rattle.shellwaltz_c.proofs.by_steps.shellwaltz_repair_step.Goals as goal
 
--- the clauses of the contract, of their product
-clauses : {A0 A1 A2 A3 A4 A5 : Type 0} → A0 × (A1 × (A2 × (A3 × (A4 × A5)))) → record { value : A0; kind_after : A1; place_after : A2; word_after : A3; bad_block_after : A4; bad_rule_after : A5 }
-clauses p = record { value = p.0; kind_after = p.1.0; place_after = p.1.1.0; word_after = p.1.1.1.0; bad_block_after = p.1.1.1.1.0; bad_rule_after = p.1.1.1.1.1 }
-
 pub returns : goal.returns
-returns c = clauses (step-and-pair c.number.ensures c.kind_of.ensures c.place_of.ensures c.word_of.ensures
-    c.bad_block.ensures c.bad_rule.ensures
-    (c.repair_step-told.ensures ∙ repair-step-same _ _ _ c.geometry-geo.ensures _ _))
+returns c =
+    let a = c.args in
+    let (answer, next) = step-told _ (c.repair_step-told.ensures ∙ ap step_of (repair-step-same _ _ _ c.geometry-geo.ensures a.image.now a.step)) (no-step _ (refused-repair _ _)) in
+    let tells = c.tell_step.ensures in
+    record {
+      value = tells.value ∙ ap number_of answer;
+      kind_after = tells.kind_after ∙ ap kind_of next;
+      place_after = tells.place_after ∙ ap place_of next;
+      word_after = tells.word_after ∙ ap word_of next;
+      bad_block_after = tells.bad_block_after ∙ ap block_of answer;
+      bad_rule_after = tells.bad_rule_after ∙ ap rule_of answer;
+    }

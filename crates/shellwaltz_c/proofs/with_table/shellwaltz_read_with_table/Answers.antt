@@ -1,16 +1,17 @@
 -- `shellwaltz_c::with_table::shellwaltz_read_with_table` meets its contract: it passes on what the call answers and leaves.
 use mathlib.Core.Path.{ap, ◌∙◌}
-use Rattle.answers.specs.Answers.{number_of}
-use Rattle.shellwaltz_c.proofs.SameCalls.{read-with-same, names}
+use Rattle.answers.specs.Answers.{number_of, block_of, rule_of}
+use Rattle.shellwaltz_c.proofs.SameCalls.{read-with-same}
 use Rattle.shellwaltz_c.proofs.with_table.shellwaltz_read_with_table.Goals as goal
 
--- the clauses of the contract, of their product
-clauses : {A0 A1 A2 A3 : Type 0} → A0 × (A1 × (A2 × A3)) → record { value : A0; buffer_after : A1; bad_block_after : A2; bad_rule_after : A3 }
-clauses p = record { value = p.0; buffer_after = p.1.0; bad_block_after = p.1.1.0; bad_rule_after = p.1.1.1 }
-
 pub returns : goal.returns
-returns c = clauses (let same = read-with-same _ _ _ c.geometry-geo.ensures _ _ _ _ in
-    let answer = c.read-told.ensures.value ∙ same.0 in (
-      c.number.ensures ∙ ap number_of answer,
-      (c.read-told.ensures.buffer_after ∙ same.1, names c.bad_block.ensures c.bad_rule.ensures answer),
-    ))
+returns c =
+    let same = read-with-same _ _ _ c.geometry-geo.ensures _ _ _ _ in
+    let answer = c.read-told.ensures.value ∙ same.0 in
+    let tells = c.tell.ensures in
+    record {
+      value = tells.value ∙ ap number_of answer;
+      buffer_after = c.read-told.ensures.buffer_after ∙ same.1;
+      bad_block_after = tells.bad_block_after ∙ ap block_of answer;
+      bad_rule_after = tells.bad_rule_after ∙ ap rule_of answer;
+    }

@@ -1,11 +1,23 @@
 -- `shellwaltz_c::with_table::shellwaltz_release_with_table` meets its contract: it passes on what the call answers and leaves.
-use Rattle.shellwaltz_c.proofs.SameCalls.{release-with-same, parts-and-table}
+use mathlib.Core.Path.{ap, ◌∙◌}
+use Rattle.answers.specs.Answers.{number_of, block_of, rule_of}
+use Rattle.calls.specs.Outcomes.{counts_of, outcome_of}
+use Rattle.calls.proofs.Told.{outcome-told}
+use Rattle.shellwaltz_c.proofs.SameCalls.{release-with-same, refused-release-with}
 use Rattle.shellwaltz_c.proofs.with_table.shellwaltz_release_with_table.Goals as goal
 
--- the clauses of the contract, of their product
-clauses : {A0 A1 A2 A3 A4 A5 A6 : Type 0} → A0 × (A1 × (A2 × (A3 × (A4 × (A5 × A6))))) → record { value : A0; image_after : A1; table_after : A2; words_after : A3; erasures_after : A4; bad_block_after : A5; bad_rule_after : A6 }
-clauses p = record { value = p.0; image_after = p.1.0; table_after = p.1.1.0; words_after = p.1.1.1.0; erasures_after = p.1.1.1.1.0; bad_block_after = p.1.1.1.1.1.0; bad_rule_after = p.1.1.1.1.1.1 }
-
 pub returns : goal.returns
-returns c = clauses (parts-and-table c.number.ensures c.bad_block.ensures c.bad_rule.ensures (c.release-freed.ensures.value, (c.release-freed.ensures.image_after, c.release-freed.ensures.table_after))
-    (release-with-same _ _ _ c.geometry.ensures _ _ _))
+returns c =
+    let a = c.args in
+    let same = release-with-same _ _ _ c.geometry.ensures a.image.now a.number a.table.now in
+    let told = ap outcome_of (c.release-freed.ensures.value ∙ ap counts_of same.0) ∙ outcome-told _ _ (refused-release-with _ _ a.number a.table.now) in
+    let tells = c.tell_counts.ensures in
+    record {
+      value = tells.value ∙ ap (λ o. number_of o.answer) told;
+      image_after = c.release-freed.ensures.image_after ∙ same.1.0;
+      table_after = c.release-freed.ensures.table_after ∙ same.1.1;
+      words_after = tells.words_after ∙ ap (λ o. o.words) told;
+      erasures_after = tells.erasures_after ∙ ap (λ o. o.erasures) told;
+      bad_block_after = tells.bad_block_after ∙ ap (λ o. block_of o.answer) told;
+      bad_rule_after = tells.bad_rule_after ∙ ap (λ o. rule_of o.answer) told;
+    }

@@ -1,261 +1,195 @@
 -- `writing::filling::reclaim_and_fill` meets its contract: the victim is one that may be reclaimed, so that what the whole reclaim leaves is
 -- well formed and asks for no further reclaim; and where the steps end before that, nothing more is done.
-use mathlib.Core.Path.{◌≡◌, refl, sym, ap, ap₂, subst, ◌∙◌}
-use mathlib.Core.List.{List, [], ◌∷◌, ◌++◌}
-use Prim.Native.Nat.{ℕ, zero, suc, ◌+◌, ◌-◌, ◌<◌, ◌≤◌}
+use mathlib.Core.Path.{◌≡◌, sym, ap, ap₂, ◌∙◌}
+use mathlib.Core.List.{List}
+use Prim.Native.Nat.{ℕ, ◌<◌}
 use native.Mathlib.Omega.{arith}
-use lib.ListN.{length, length-append}
-use lib.Seq.{take-append-le}
+use Rattle.ranges.proofs.Searches.{index-some, index-none}
 use Rattle.geometry.specs.declared.Geometry.{Geometry}
 use Rattle.geometry.specs.Geometry.{d}
-use Rattle.geometry.specs.Places.{place, erase_word}
-use Rattle.image.specs.Words.{Image, Words32, erase_count}
+use Rattle.image.specs.Words.{Image, erase_count}
 use Rattle.image.specs.Blocks.{least_worn_blank}
 use Rattle.image.proofs.Facts.{sound-facts, sound-maps, formed-sound, facts-formed}
 use Rattle.tables.specs.Tables.{Table}
 use Rattle.flash.specs.declared.Step.{Step}
-use Rattle.flash.specs.declared.Step.TheVariants.{Program}
-use Rattle.flash.specs.Steps.{run, erasures_in, first_of, progress}
+use Rattle.flash.specs.declared.run.Run.{Run}
+use Rattle.flash.specs.Runs.{Does, of_run}
+use Rattle.flash.specs.Steps.{run, erasures_in, first_of}
 use Rattle.flash.specs.Writing.{copying, erases_victim, reclaiming, reclaiming_first, filling}
 use Rattle.flash.specs.Tables.{table_copied, table_reclaimed, table_filled, table_reclaimed_first}
-use Rattle.flash.proofs.Stores.{erasures-append}
 use Rattle.flash.proofs.Counts.{filling-erases-nothing}
-use Rattle.flash.proofs.Parts.{Carried, first-parts, erases-none-first, and_then, stopped, passed}
+use Rattle.flash.proofs.RunLaws.{as-steps, by-geo, both, none-left, done}
 use Rattle.flash.proofs.Written.{Reclaims, reclaims, blank-in, victim-in-turn, victim-moved, reclaim-ready, reclaim-blank}
-use Rattle.writing.proofs.filling.reclaim_and_fill.Goals.{After-copy_live-left_copied, After-slice_known-1}
+use Rattle.writing.proofs.Erasing.{before-erase, behind-erase}
+use Rattle.writing.proofs.filling.reclaim_and_fill.Goals.{After-view-image, In-Some, After-erase_count-count, After-copy_live}
 use Rattle.writing.proofs.filling.reclaim_and_fill.Goals as goal
 
--- the erase of a block, between steps that erase none: it is among the first steps as soon as one of them is behind the first part
-module _ (geo : Geometry) (v count : ℕ) (xs ys : List Step) (none : erasures_in xs ≡ 0) (no_more : erasures_in ys ≡ 0) (most : ℕ) where
-  abbrev erase : List Step
-  erase = erases_victim geo v count
-
-  erase-first : (left : ℕ) → (left ≡ 0 → ⊥) → erasures_in (first_of left erase) ≡ 1
-  unfolding erasures_in
-  erase-first zero some = absurd (some refl)
-  erase-first (suc left) some = omega (arith, erases-none-first left (Program (place geo v erase_word) (count + 1) ∷ []) refl)
-
-  before-erase : most ≤ length xs → erasures_in (first_of most ((xs ++ erase) ++ ys)) ≡ 0
-  before-erase l =
-      ap erasures_in (take-append-le most (xs ++ erase) ys (omega (arith, length-append xs erase)) ∙ take-append-le most xs erase l)
-      ∙ erases-none-first most xs none
-
-  behind-erase : length xs < most → erasures_in (first_of most ((xs ++ erase) ++ ys)) ≡ 1
-  behind-erase l =
-      let left = most - length xs in
-      let rest = most - length (xs ++ erase) in
-      ap erasures_in (first-parts most (xs ++ erase) ys ∙ ap (λ (zs : List Step). zs ++ first_of rest ys) (first-parts most xs erase))
-      ∙ omega (
-        arith,
-        erasures-append (first_of most xs ++ first_of left erase) (first_of rest ys),
-        erasures-append (first_of most xs) (first_of left erase),
-        erases-none-first most xs none,
-        erases-none-first rest ys no_more,
-        erase-first left (omega arith),
-      )
-
--- the copying of a reclaim, and the image that the whole of it leaves
-module _ (geo : Geometry) (image : Image) (v : ℕ) where
+module _ (before : Run) (v : ℕ) where
+  -- the copying of a reclaim; the whole of it, and the image that this leaves
   abbrev copies : List Step
-  copies = copying geo image v (least_worn_blank geo image) (d geo)
+  copies = of_run copying before v (of_run least_worn_blank before) (d before.geo)
+
+  abbrev reclaim : List Step
+  reclaim = of_run reclaiming before v (of_run least_worn_blank before)
 
   abbrev base : Image
-  base = run geo image (reclaiming geo image v (least_worn_blank geo image))
+  base = run before.geo before.words.now reclaim
 
-  into-blank :
-      (most : ℕ) {t copied : ℕ} {now : Image} →
-      t ≡ least_worn_blank geo image →
-      Carried geo image most (copying geo image v t (d geo)) copied now →
-      Carried geo image most copies copied now
-  into-blank most {copied = copied} {now = now} e h =
-      subst (λ (x : ℕ). Carried geo image most (copying geo image v x (d geo)) copied now) e h
+module _ (before : Run) (v : ℕ) (plan : of_run Reclaims before v) (n : ℕ) (ws : List ℕ) where
+  abbrev all : List Step
+  all = of_run reclaiming_first before v n ws
 
-module _ (geo : Geometry) (image : Image) (v : ℕ) (plan : Reclaims geo image v) where
-  no-erasure : erasures_in (copies geo image v) ≡ 0
-  no-erasure = (victim-moved geo image plan.ready plan.must v plan.victim-is (d geo) (omega arith)).erasures
+  no-erasure : erasures_in (copies before v) ≡ 0
+  no-erasure = (victim-moved before.geo before.words.now plan.ready plan.must v plan.victim-is (d before.geo) (omega arith)).erasures
 
-  module _ (n : ℕ) (ws : List ℕ) (most : ℕ) where
-    abbrev all : List Step
-    all = reclaiming_first geo image v n ws
+  no-more : erasures_in (filling before.geo (base before v) n ws) ≡ 0
+  no-more = filling-erases-nothing before.geo (base before v) n ws
 
+  module _ {copied : Run} (first : Does before copied (copies before v)) where
     -- none is left behind the copying
-    no-copy-left :
-        {copied : ℕ} {now : Image} →
-        Carried geo image most (copies geo image v) copied now →
-        copied ≡ 0 →
-        (record { left = 0; erasures = 0 } ≡ progress most all) × (now ≡ run geo image (first_of most all))
+    no-copy-left : copied.left ≡ 0 → Does before copied all
     unfolding reclaiming_first reclaiming
-    no-copy-left first none =
-        let second = filling geo (base geo image v) n ws in
-        let half = stopped geo image most (copies geo image v) first none (erases_victim geo v (erase_count geo image v)) in
-        let end = stopped geo image most _ half refl second in (
-          ap₂ (λ (x y : ℕ). record { left = x; erasures = y }) end.0
-              (sym
-              (before-erase geo v (erase_count geo image v) (copies geo image v) second
-              no-erasure (filling-erases-nothing geo (base geo image v) n ws) most (omega (arith, first.0)))),
-          end.1,
-        )
+    no-copy-left none = none-left (none-left first none _) none _
+
+    none-erased : copied.left ≡ 0 → 0 ≡ erasures_in (first_of before.left all)
+    unfolding reclaiming_first reclaiming
+    none-erased none =
+        sym (before-erase before.geo v _ (copies before v) _ no-erasure no-more before.left (omega (arith, first.left_after)))
 
     -- some are
-    module _
-        {count copied erased : ℕ} {now after : Image}
-        (counted : count ≡ erase_count geo image v)
-        (first : Carried geo image most (copies geo image v) copied now) (some : copied ≡ 0 → ⊥)
-        (second : Carried geo now copied (erases_victim geo v count) erased after)
-      where
-        reclaimed : Carried geo image most (reclaiming geo image v (least_worn_blank geo image)) erased after
-        unfolding reclaiming
-        reclaimed = rw (← counted) (and_then geo image most (copies geo image v) first (erases_victim geo v count) second)
+    module _ (some : copied.left ≡ 0 → ⊥) {erased : Run} {count : ℕ} (counted : count ≡ of_run erase_count before v) (second : Does copied erased (erases_victim copied.geo v count)) where
+      reclaimed : Does before erased (reclaim before v)
+      unfolding reclaiming
+      reclaimed = both first (as-steps (by-geo (λ geo. erases_victim geo v count) second first.same_geo) (ap (erases_victim before.geo v) counted))
 
-        one-erasure : erasures_in (first_of most all) ≡ 1
-        unfolding reclaiming_first reclaiming
-        one-erasure =
-            behind-erase geo v (erase_count geo image v) (copies geo image v) (filling geo (base geo image v) n ws)
-            no-erasure (filling-erases-nothing geo (base geo image v) n ws) most
-            (omega (arith, first.0, some))
+      one-erasure : 1 ≡ erasures_in (first_of before.left all)
+      unfolding reclaiming_first reclaiming
+      one-erasure =
+          sym (behind-erase before.geo v _ (copies before v) _ no-erasure no-more before.left (omega (arith, first.left_after, some)))
 
-        -- none behind the erasing
-        no-erase-left : erased ≡ 0 → (record { left = 0; erasures = 1 } ≡ progress most all) × (after ≡ run geo image (first_of most all))
+      -- none behind the erasing
+      no-erase-left : erased.left ≡ 0 → Does before erased all
+      unfolding reclaiming_first
+      no-erase-left none = none-left reclaimed none _
+
+      -- some there too: the image is that of the whole reclaim
+      module _ (more : erased.left ≡ 0 → ⊥) where
+        whole : erased.words.now ≡ base before v
+        whole = done reclaimed more
+
+        filled : {end : Run} → Does erased end (of_run filling erased n ws) → Does before end all
         unfolding reclaiming_first
-        no-erase-left none =
-            let end = stopped geo image most (reclaiming geo image v (least_worn_blank geo image)) reclaimed none (filling geo (base geo image v) n ws) in
-            (ap₂ (λ (x y : ℕ). record { left = x; erasures = y }) end.0 (sym one-erasure), end.1)
+        filled third = both reclaimed (as-steps third (ap₂ (λ (geo : Geometry) (image : Image). filling geo image n ws) reclaimed.same_geo whole))
 
-        -- some there too: the image is that of the whole reclaim
-        module _ (more : erased ≡ 0 → ⊥) where
-          whole : after ≡ (base geo image v)
-          whole = passed geo image most (reclaiming geo image v (least_worn_blank geo image)) reclaimed more
-
-          filled :
-              {left : ℕ} {end : Image} →
-              Carried geo after erased (filling geo after n ws) left end →
-              (record { left = left; erasures = 1 } ≡ progress most all) × (end ≡ run geo image (first_of most all))
-          unfolding reclaiming_first
-          filled {left} {end} third =
-              let behind : Carried geo after erased (filling geo (base geo image v) n ws) left end = rw (← whole) third in
-              let end = and_then geo image most (reclaiming geo image v (least_worn_blank geo image)) reclaimed (filling geo (base geo image v) n ws) behind in
-              (ap₂ (λ (x y : ℕ). record { left = x; erasures = y }) end.0 (sym one-erasure), end.1)
-
-          noted-all :
-              (table mid end : Table) →
-              mid ≡ table_copied geo image v (least_worn_blank geo image) table (d geo) →
-              end ≡ table_filled geo after n mid →
-              end ≡ table_reclaimed_first geo image v n table
-          unfolding table_reclaimed_first table_reclaimed
-          noted-all table mid end p q = q ∙ ap₂ (λ (x : Image) (y : Table). table_filled geo x n y) whole p
+        noted-all :
+            (table : Table) {mid end : Table} →
+            mid ≡ of_run table_copied before v (of_run least_worn_blank before) table (d before.geo) →
+            end ≡ of_run table_filled erased n mid →
+            end ≡ of_run table_reclaimed_first before v n table
+        unfolding table_reclaimed_first table_reclaimed
+        noted-all table p q = q ∙ rw (reclaimed.same_geo, whole, p)
 
 -- what the contract asks, as the laws want it
-planned-so : (c : After-slice_known-1) → let a = c.args in Reclaims a.geo a.image.now a.v
+planned-so : (c : After-view-image) → of_run Reclaims c.args.run.now c.args.v
 planned-so c =
-    let words : Words32 c.args.image.now = record { small = λ q. (c.type_inv.image q).fits } in
-    reclaims c.args.geo c.args.image.now c.args.v c.requires.shaped c.requires.image_value c.requires.image_value_2 words
+    let r = c.args.run.now in
+    reclaims r.geo r.words.now c.args.v r.shaped c.requires.image_value c.requires.image_value_2 (rw c.view-image.ensures.words at c.view-image.result.words32)
 
-pub least_worn_blank-blank-requires-clause-maps_agree : goal.least_worn_blank-blank-requires-clause-maps_agree
-least_worn_blank-blank-requires-clause-maps_agree c = sound-maps _ _ (sound-facts _ _ (formed-sound _ _ c.requires.image_value))
+pub least_worn_blank-requires : goal.least_worn_blank-requires
+least_worn_blank-requires c =
+    rw (c.view-image.ensures.words, c.view-image.ensures.geo) (sound-maps _ _ (sound-facts _ _ (formed-sound _ _ c.requires.image_value)))
 
-pub erase_count-count-requires-clause-b_lt_blocks : goal.erase_count-count-requires-clause-b_lt_blocks
-erase_count-count-requires-clause-b_lt_blocks c = let r = planned-so (goal.at.erase_count-count-requires-clause-b_lt_blocks c).After-slice_known-1 in
-    r.victim-is.block
+-- the blank block
+blank-below : (c : After-view-image) → of_run least_worn_blank c.args.run.now < c.args.run.now.geo.blocks
+blank-below c =
+    let r = c.args.run.now in
+    let plan = planned-so c in
+    blank-in r.geo r.words.now plan.ready plan.must c.args.v plan.victim-is
 
-pub copy_live-left_copied-requires-clause-each_in_turn : goal.copy_live-left_copied-requires-clause-each_in_turn
-copy_live-left_copied-requires-clause-each_in_turn c = let a = c.args in
-    let r = planned-so (goal.at.copy_live-left_copied-requires-clause-each_in_turn c).After-slice_known-1 in
-    let least = c.least_worn_blank-blank.ensures in rw least (victim-in-turn a.geo a.image.now r.ready r.must a.v r.victim-is)
+pub returns-in_default : goal.returns-in_default
+returns-in_default c =
+    let is = rw (c.view-image.ensures.words, c.view-image.ensures.geo) at c.least_worn_blank.ensures in
+    absurd (omega (arith, blank-below (goal.at.returns-in_default c).After-view-image, index-none (sym is ∙ c.in_default.is)))
 
-pub copy_live-left_copied-requires-clause-t_lt_blocks : goal.copy_live-left_copied-requires-clause-t_lt_blocks
-copy_live-left_copied-requires-clause-t_lt_blocks c = let a = c.args in
-    let r = planned-so (goal.at.copy_live-left_copied-requires-clause-t_lt_blocks c).After-slice_known-1 in
-    let least = c.least_worn_blank-blank.ensures in omega (arith, least, blank-in a.geo a.image.now r.ready r.must a.v r.victim-is)
+blank-is : (c : In-Some) → c.in-Some.blank ≡ of_run least_worn_blank c.args.run.now
+blank-is c =
+    let is = rw (c.view-image.ensures.words, c.view-image.ensures.geo) at c.least_worn_blank.ensures in
+    sym (index-some (sym is ∙ c.in-Some.is)).0
 
-pub copy_live-left_copied-requires-clause-v_lt_blocks : goal.copy_live-left_copied-requires-clause-v_lt_blocks
-copy_live-left_copied-requires-clause-v_lt_blocks c = let a = c.args in
-    let r = planned-so (goal.at.copy_live-left_copied-requires-clause-v_lt_blocks c).After-slice_known-1 in
-    let least = c.least_worn_blank-blank.ensures in r.victim-is.block
+pub block-requires : goal.block-requires
+block-requires c = rw c.view-image.ensures.geo (planned-so (goal.at.block-requires c).After-view-image).victim-is.block
+
+count-is : (c : After-erase_count-count) → c.erase_count-count.result ≡ of_run erase_count c.args.run.now c.args.v
+count-is c =
+    rw (c.block.ensures.image, c.block.ensures.index, c.view-image.ensures.words, c.view-image.ensures.geo) at c.erase_count-count.ensures
+
+pub copy_live-requires-clause-each_in_turn : goal.copy_live-requires-clause-each_in_turn
+copy_live-requires-clause-each_in_turn c =
+    let r = c.args.run.now in
+    let plan = planned-so (goal.at.copy_live-requires-clause-each_in_turn c).After-view-image in
+    rw (blank-is (goal.at.copy_live-requires-clause-each_in_turn c).In-Some)
+    (victim-in-turn r.geo r.words.now plan.ready plan.must c.args.v plan.victim-is)
 
 -- the copying, into the blank block
-first : (c : After-copy_live-left_copied) →
-    let a = c.args in Carried a.geo a.image.now a.most (copies a.geo a.image.now a.v) c.copy_live-left_copied.result c.copy_live-left_copied.new.image
+first : (c : After-copy_live) → Does c.args.run.now c.copy_live.new.run (copies c.args.run.now c.args.v)
 first c =
-    let least = c.least_worn_blank-blank.ensures in
-    into-blank _ _ _ c.args.most least (c.copy_live-left_copied.ensures.value, c.copy_live-left_copied.ensures.image_after)
+    let is = rw (c.view-image.ensures.words, c.view-image.ensures.geo) at c.least_worn_blank.ensures in
+    let blank = sym (index-some (sym is ∙ c.in-Some.is)).0 in
+    as-steps c.copy_live.ensures.run_after (ap (λ t. of_run copying c.args.run.now c.args.v t (d c.args.run.now.geo)) blank)
 
-pub returns-then-left_copied-eq0-clause-image_after : goal.returns-then-left_copied-eq0-clause-image_after
-returns-then-left_copied-eq0-clause-image_after c = let a = c.args in
-    let done =
-    no-copy-left a.geo a.image.now a.v (planned-so (goal.at.returns-then-left_copied-eq0-clause-image_after c).After-slice_known-1) a.n a.words.now a.most
-    (first (goal.at.returns-then-left_copied-eq0-clause-image_after c).After-copy_live-left_copied) c.if-left_copied-eq0.true in
-    done.1
+pub returns-then-run-eq0-clause-value : goal.returns-then-run-eq0-clause-value
+returns-then-run-eq0-clause-value c =
+    let at = goal.at.returns-then-run-eq0-clause-value c in
+    none-erased _ _ (planned-so at.After-view-image) _ _ (first at.After-copy_live) c.if-run-eq0.true
 
-pub returns-then-left_copied-eq0-clause-value : goal.returns-then-left_copied-eq0-clause-value
-returns-then-left_copied-eq0-clause-value c = let a = c.args in
-    let done =
-    no-copy-left a.geo a.image.now a.v (planned-so (goal.at.returns-then-left_copied-eq0-clause-value c).After-slice_known-1) a.n a.words.now a.most
-    (first (goal.at.returns-then-left_copied-eq0-clause-value c).After-copy_live-left_copied) c.if-left_copied-eq0.true in
-    done.0
+pub returns-then-run-eq0-clause-run_after : goal.returns-then-run-eq0-clause-run_after
+returns-then-run-eq0-clause-run_after c =
+    let at = goal.at.returns-then-run-eq0-clause-run_after c in
+    no-copy-left _ _ (planned-so at.After-view-image) _ _ (first at.After-copy_live) c.if-run-eq0.true
 
-pub erase_victim-left_erased-requires-clause-count_lt_ceiling : goal.erase_victim-left_erased-requires-clause-count_lt_ceiling
-erase_victim-left_erased-requires-clause-count_lt_ceiling c = let r = planned-so (goal.at.erase_victim-left_erased-requires-clause-count_lt_ceiling c).After-slice_known-1 in omega (arith, r.victim-is.wearable, c.erase_count-count.ensures)
+pub erase_victim-requires-clause-count_lt_ceiling : goal.erase_victim-requires-clause-count_lt_ceiling
+erase_victim-requires-clause-count_lt_ceiling c =
+    let at = goal.at.erase_victim-requires-clause-count_lt_ceiling c in
+    omega (arith, (planned-so at.After-view-image).victim-is.wearable, count-is at.After-erase_count-count)
 
-pub erase_victim-left_erased-requires-clause-v_lt_blocks : goal.erase_victim-left_erased-requires-clause-v_lt_blocks
-erase_victim-left_erased-requires-clause-v_lt_blocks c = let a = c.args in
-    let r = planned-so (goal.at.erase_victim-left_erased-requires-clause-v_lt_blocks c).After-slice_known-1 in
-    let least = c.least_worn_blank-blank.ensures in omega (arith, r.victim-is.block, least, blank-in a.geo a.image.now r.ready r.must a.v r.victim-is)
+pub fill-requires-clause-image_value : goal.fill-requires-clause-image_value
+fill-requires-clause-image_value c =
+    let at = goal.at.fill-requires-clause-image_value c in
+    let r = c.args.run.now in
+    let plan = planned-so at.After-view-image in
+    let copied = first at.After-copy_live in
+    let count = count-is at.After-erase_count-count in
+    let left = whole r c.args.v plan c.args.sector.now.number c.args.sector.now.words.now copied c.if-run-eq0.false count c.erase_victim.ensures (omega arith) in
+    let geo = (reclaimed r c.args.v plan c.args.sector.now.number c.args.sector.now.words.now copied c.if-run-eq0.false count c.erase_victim.ensures).same_geo in
+    rw (geo, left) (facts-formed r.geo _ (reclaim-ready r.geo r.words.now plan.ready plan.must c.args.v plan.victim-is).sound (reclaim-blank r.geo r.words.now plan.ready plan.must c.args.v plan.victim-is))
 
-pub returns-then-left_erased-eq0-clause-image_after : goal.returns-then-left_erased-eq0-clause-image_after
-returns-then-left_erased-eq0-clause-image_after c = let a = c.args in
-    let done =
-    no-erase-left a.geo a.image.now a.v (planned-so (goal.at.returns-then-left_erased-eq0-clause-image_after c).After-slice_known-1) a.n a.words.now a.most
-    c.erase_count-count.ensures (first (goal.at.returns-then-left_erased-eq0-clause-image_after c).After-copy_live-left_copied) c.if-left_copied-eq0.false (c.erase_victim-left_erased.ensures.value, c.erase_victim-left_erased.ensures.image_after)
-    c.if-left_erased-eq0.true in
-    done.1
+pub returns-then-run-gt0-clause-value : goal.returns-then-run-gt0-clause-value
+returns-then-run-gt0-clause-value c =
+    let at = goal.at.returns-then-run-gt0-clause-value c in
+    one-erasure _ _ (planned-so at.After-view-image) _ _ (first at.After-copy_live) c.if-run-eq0.false (count-is at.After-erase_count-count) c.erase_victim.ensures
 
-pub returns-then-left_erased-eq0-clause-value : goal.returns-then-left_erased-eq0-clause-value
-returns-then-left_erased-eq0-clause-value c = let a = c.args in
-    let done =
-    no-erase-left a.geo a.image.now a.v (planned-so (goal.at.returns-then-left_erased-eq0-clause-value c).After-slice_known-1) a.n a.words.now a.most
-    c.erase_count-count.ensures (first (goal.at.returns-then-left_erased-eq0-clause-value c).After-copy_live-left_copied) c.if-left_copied-eq0.false (c.erase_victim-left_erased.ensures.value, c.erase_victim-left_erased.ensures.image_after)
-    c.if-left_erased-eq0.true in
-    done.0
+pub returns-then-run-gt0-clause-run_after : goal.returns-then-run-gt0-clause-run_after
+returns-then-run-gt0-clause-run_after c =
+    let at = goal.at.returns-then-run-gt0-clause-run_after c in
+    filled _ _ (planned-so at.After-view-image) _ _ (first at.After-copy_live) c.if-run-eq0.false (count-is at.After-erase_count-count) c.erase_victim.ensures
+    (omega arith) c.fill.ensures.run_after
 
-pub fill-left-requires-clause-image_value : goal.fill-left-requires-clause-image_value
-fill-left-requires-clause-image_value c = let a = c.args in
-    let r = planned-so (goal.at.fill-left-requires-clause-image_value c).After-slice_known-1 in
-    let left =
-    whole a.geo a.image.now a.v r a.n a.words.now a.most
-    c.erase_count-count.ensures (first (goal.at.fill-left-requires-clause-image_value c).After-copy_live-left_copied) c.if-left_copied-eq0.false (c.erase_victim-left_erased.ensures.value, c.erase_victim-left_erased.ensures.image_after)
-    c.if-left_erased-eq0.false in
-    let after = reclaim-ready a.geo a.image.now r.ready r.must a.v r.victim-is in rw left (facts-formed a.geo _ after.sound (reclaim-blank a.geo a.image.now r.ready r.must a.v r.victim-is))
+pub returns-then-run-gt0-clause-table_after : goal.returns-then-run-gt0-clause-table_after
+returns-then-run-gt0-clause-table_after c some =
+    let at = goal.at.returns-then-run-gt0-clause-table_after c in
+    let r = c.args.run.now in
+    noted-all _ _ (planned-so at.After-view-image) _ c.args.sector.now.words.now (first at.After-copy_live) c.if-run-eq0.false (count-is at.After-erase_count-count) c.erase_victim.ensures
+    (omega arith) c.args.table.now
+    (c.copy_live.ensures.table_after c.if-run-eq0.false ∙ ap (λ t. of_run table_copied r c.args.v t c.args.table.now (d r.geo)) (blank-is at.In-Some))
+    c.fill.ensures.table_after
 
-pub returns-clause-image_after : goal.returns-clause-image_after
-returns-clause-image_after c = let a = c.args in
-    let fill = c.fill-left in
-    let left = c.if-left_erased-eq0.false in
-    let done =
-    filled a.geo a.image.now a.v (planned-so (goal.at.returns-clause-image_after c).After-slice_known-1) a.n a.words.now a.most
-    c.erase_count-count.ensures (first (goal.at.returns-clause-image_after c).After-copy_live-left_copied) c.if-left_copied-eq0.false (c.erase_victim-left_erased.ensures.value, c.erase_victim-left_erased.ensures.image_after)
-    left (fill.ensures.value, fill.ensures.image_after) in done.1
+pub returns-else-run-gt0-clause-value : goal.returns-else-run-gt0-clause-value
+returns-else-run-gt0-clause-value c =
+    let at = goal.at.returns-else-run-gt0-clause-value c in
+    one-erasure _ _ (planned-so at.After-view-image) _ _ (first at.After-copy_live) c.if-run-eq0.false (count-is at.After-erase_count-count) c.erase_victim.ensures
 
-pub returns-clause-table_after : goal.returns-clause-table_after
-returns-clause-table_after c = let a = c.args in
-    let fill = c.fill-left in
-    let left = c.if-left_erased-eq0.false in
-    let done =
-    filled a.geo a.image.now a.v (planned-so (goal.at.returns-clause-table_after c).After-slice_known-1) a.n a.words.now a.most
-    c.erase_count-count.ensures (first (goal.at.returns-clause-table_after c).After-copy_live-left_copied) c.if-left_copied-eq0.false (c.erase_victim-left_erased.ensures.value, c.erase_victim-left_erased.ensures.image_after)
-    left (fill.ensures.value, fill.ensures.image_after) in λ some.
-    noted-all a.geo a.image.now a.v (planned-so (goal.at.returns-clause-table_after c).After-slice_known-1) a.n a.words.now a.most
-    c.erase_count-count.ensures (first (goal.at.returns-clause-table_after c).After-copy_live-left_copied) c.if-left_copied-eq0.false (c.erase_victim-left_erased.ensures.value, c.erase_victim-left_erased.ensures.image_after)
-    left a.table.now c.copy_live-left_copied.new.table fill.new.table
-    (c.copy_live-left_copied.ensures.table_after c.if-left_copied-eq0.false
-    ∙ ap (λ (x : ℕ). table_copied a.geo a.image.now a.v x a.table.now (d a.geo))
-    c.least_worn_blank-blank.ensures)
-    fill.ensures.table_after
-
-pub returns-clause-value : goal.returns-clause-value
-returns-clause-value c = let a = c.args in
-    let fill = c.fill-left in
-    let left = c.if-left_erased-eq0.false in
-    let done =
-    filled a.geo a.image.now a.v (planned-so (goal.at.returns-clause-value c).After-slice_known-1) a.n a.words.now a.most
-    c.erase_count-count.ensures (first (goal.at.returns-clause-value c).After-copy_live-left_copied) c.if-left_copied-eq0.false (c.erase_victim-left_erased.ensures.value, c.erase_victim-left_erased.ensures.image_after)
-    left (fill.ensures.value, fill.ensures.image_after) in done.0
+pub returns-else-run-gt0-clause-run_after : goal.returns-else-run-gt0-clause-run_after
+returns-else-run-gt0-clause-run_after c =
+    let at = goal.at.returns-else-run-gt0-clause-run_after c in
+    no-erase-left _ _ (planned-so at.After-view-image) _ _ (first at.After-copy_live) c.if-run-eq0.false (count-is at.After-erase_count-count) c.erase_victim.ensures
+    (omega arith)
