@@ -51,7 +51,7 @@ pub refused-with : {A : Type 0} (a : Answer) (x : A) {why : Refusal} → answere
 refused-with (Ok u) x e = let z : ◌≡◌ {A = ℕ} 0 1 = cc in absurd (omega arith)
 refused-with (Err other) x e = cc
 
--- what a `?` hands on is the refusal that it met
+-- what gave nothing but this refusal gave it
 pub handed-on : {T : Type 0} {why : Refusal} (r : Result T Refusal) → IsErrAnd r (λ e. e ≡ why) → r ≡ Err why
 handed-on (Ok x) k = absurd k
 handed-on (Err e) k = ap Err k

@@ -44,8 +44,9 @@ pub fn count_set(w: u32) -> u32
     u32::count_ones(w)
 }
 
-// The lesser of two words. (This and the next one are not the methods of std: no function of std is called in what the public calls stand on, since
-// `determined` proves of each of them, `runs`, that an environment has its code, and the tables of std cannot be named.)
+// The lesser of two words. (This and the next one are not the methods of std: but for `trailing_zeros` and `count_ones`, which the compiler has itself,
+// no function of std is called in what the public calls stand on, since `determined` proves of each of them, `runs`, that an environment has its code, and
+// the tables of std cannot be named.)
 pub fn lesser(a: u32, b: u32) -> u32
     ensures { result ≡ min a b }
 {

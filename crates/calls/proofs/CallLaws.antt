@@ -2,12 +2,13 @@
 use mathlib.Core.Path.{◌≡◌, refl, sym, ap, ◌∙◌}
 use mathlib.Core.Bool.{Bool, true, false, not}
 use mathlib.Core.List.{List, [], ◌∷◌}
+use mathlib.Core.Logic.{◌≢◌}
 use Prim.Native.Nat.{ℕ, ◌<◌}
 use native.Mathlib.Omega.{arith}
 use lib.Dec.{eqb}
 use lib.ListN.{length}
-use borrow.Author.Tests.{eq-eqb, eqb-true, lt-leb, not-false}
-use Rattle.ranges.proofs.Tests.{both-pass}
+use borrow.Author.Tests.{eq-eqb, eqb-true, lt-leb, not-true, not-false}
+use Rattle.ranges.proofs.Tests.{both-pass, unless}
 use Rattle.geometry.specs.declared.Geometry.{Geometry}
 use Rattle.geometry.specs.Geometry.{image_length, within_limits}
 use Rattle.geometry.proofs.Laws.{limits-hold, limits-pass}
@@ -18,6 +19,7 @@ use Rattle.image.specs.Words.{Image, Shaped, Words32}
 use Rattle.image.specs.WellFormed.{R6, well_formed}
 use Rattle.image.specs.Faults.{first_fault}
 use Rattle.image.proofs.Facts.{sound-facts, formed-sound, formed-blank}
+use Rattle.image.proofs.Faults.{fault-exactly-when-malformed}
 use Rattle.flash.proofs.Filling.{Ready}
 use Rattle.answers.specs.declared.Refusal.TheVariants.{Malformed}
 use Rattle.answers.specs.declared.Refusal.{Refusal}
@@ -30,28 +32,43 @@ use Rattle.calls.proofs.Rows.{NoneApplies, none-applies, first-refuse, first-pas
 pub as-tested : {r t u : Bool} → r ≡ t → not r ≡ u → not t ≡ u
 as-tested e h = sym (ap not e) ∙ h
 
--- row 4, by what the check gives
+-- row 4 applies exactly where there is a pair, which is then the one that the row names
+module _ (geo : Geometry) (image : Image) {fault : Fault} (e : fault ≡ first_fault geo image) where
+  pub fault-applies : fault.rule ≢ 0 → (row4 geo image).applies ≡ true
+  fault-applies n = ap not ((fault-exactly-when-malformed geo image).0.0 (λ z. n (ap (λ f. f.rule) e ∙ z)))
+
+  pub fault-passes : fault.rule ≡ 0 → (row4 geo image).applies ≡ false
+  fault-passes z =
+      unless (row4 geo image).applies
+      (λ t. (fault-exactly-when-malformed geo image).0.1 (not-true _ t) (sym (ap (λ f. f.rule) e) ∙ z))
+
+  pub fault-named : Malformed fault.block fault.rule ≡ (row4 geo image).refusal
+  fault-named = ap (λ f. Malformed f.block f.rule) e
+
+-- row 4, by what the check gives: it gives that pair, and only where the image is not well formed
 module _ (geo : Geometry) (image : Image) where
-  pub fault-named : {fault : Fault} → fault_if_any geo image ≡ Err fault → malformed geo image ≡ Malformed fault.block fault.rule
-  fault-named {fault} = go (well_formed geo image)
+  pub given-fault : {fault : Fault} → fault_if_any geo image ≡ Err fault → (fault ≡ first_fault geo image) × (well_formed geo image ≡ false)
+  given-fault {fault} = go (well_formed geo image)
     where
-      go : (t : Bool) → cond t (Ok (tt {0})) (Err (first_fault geo image)) ≡ Err fault → malformed geo image ≡ Malformed fault.block fault.rule
+      go : (t : Bool) → cond t (Ok (tt {0})) (Err (first_fault geo image)) ≡ Err fault → (fault ≡ first_fault geo image) × (t ≡ false)
       go true e = let z : ◌≡◌ {A = ℕ} 0 1 = cc in absurd (omega arith)
-      go false e = let same : first_fault geo image ≡ fault = cc in ap (λ f. Malformed f.block f.rule) same
+      go false e = let same : fault ≡ first_fault geo image = cc in (same, refl)
 
-  pub fault-refuses : {fault : Fault} → fault_if_any geo image ≡ Err fault → first_that_applies (row4 geo image ∷ []) ≡ Err (Malformed fault.block fault.rule)
-  fault-refuses {fault} e = go (well_formed geo image) e
+  pub given-none : {u : Unit {0}} → fault_if_any geo image ≡ Ok u → well_formed geo image ≡ true
+  given-none {u} = go (well_formed geo image)
     where
-      go : (t : Bool) → cond t (Ok (tt {0})) (Err (first_fault geo image)) ≡ Err fault → cond (not t) (Err (malformed geo image)) Accepted ≡ Err (Malformed fault.block fault.rule)
-      go true q = let z : ◌≡◌ {A = ℕ} 0 1 = cc in absurd (omega arith)
-      go false q = ap Err (fault-named e)
-
-  pub fault-passes : {u : Unit {0}} → fault_if_any geo image ≡ Ok u → first_that_applies (row4 geo image ∷ []) ≡ Accepted
-  fault-passes {u} = go (well_formed geo image)
-    where
-      go : (t : Bool) → cond t (Ok (tt {0})) (Err (first_fault geo image)) ≡ Ok u → cond (not t) (Err (malformed geo image)) Accepted ≡ Accepted
+      go : (t : Bool) → cond t (Ok (tt {0})) (Err (first_fault geo image)) ≡ Ok u → t ≡ true
       go true e = refl
       go false e = let z : ◌≡◌ {A = ℕ} 0 1 = cc in absurd (omega arith)
+
+  pub refusal-named : {fault : Fault} → fault_if_any geo image ≡ Err fault → malformed geo image ≡ Malformed fault.block fault.rule
+  refusal-named e = sym (fault-named geo image (given-fault e).0)
+
+  pub fault-refuses : {fault : Fault} → fault_if_any geo image ≡ Err fault → first_that_applies (row4 geo image ∷ []) ≡ Err (Malformed fault.block fault.rule)
+  fault-refuses e = rw (ap not (given-fault e).1) (ap Err (refusal-named e))
+
+  pub none-refused : {u : Unit {0}} → fault_if_any geo image ≡ Ok u → first_that_applies (row4 geo image ∷ []) ≡ Accepted
+  none-refused e = rw (ap not (given-none e)) refl
 
 -- where row 1 does not apply, the image has its geometry's length, within the limits
 pub shaped-left : (geo : Geometry) (image : Image) → (row1 geo image).applies ≡ false → Shaped geo image

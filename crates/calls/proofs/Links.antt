@@ -20,9 +20,9 @@ Below W =
     (HasT (in_world W) true Rattle.mending.proofs.is_mendable.Symbol.code ×
     (HasT (in_world W) true Rattle.repairing.proofs.plan.Symbol.code ×
     (HasT (in_world W) true Rattle.repairing.proofs.repair_along.Symbol.code ×
+    (HasT (in_world W) true Rattle.tables.proofs.look_up.Symbol.code ×
     (HasT (in_world W) true Rattle.image.proofs.view.Block.copy_contents.Symbol.code ×
     (HasT (in_world W) true Rattle.image.proofs.view.View.block.Symbol.code ×
-    (HasT (in_world W) true Rattle.tables.proofs.look_up.Symbol.code ×
     (HasT (in_world W) true Rattle.placing.proofs.release.Symbol.code ×
     (HasT (in_world W) true Rattle.tables.proofs.note.Symbol.code ×
     (HasT (in_world W) true Rattle.writing.proofs.filling.plan.Symbol.code ×
@@ -52,13 +52,17 @@ pub repair_by : Linked parts.calls-repair_by.code
 repair_by W h b =
     parts.calls-repair_by.has (in_world W) true (made.found-calls::repair_by W h) (repair_within W h b)
 
+mapped_entry : Linked parts.calls-mapped_entry.code
+mapped_entry W h b =
+    parts.calls-mapped_entry.has (in_world W) true (made.found-calls::mapped_entry W h) b.0 b.1.0 b.1.1.1.1.1.1.0
+
 pub read_by : Linked parts.calls-read_by.code
 read_by W h b =
-    parts.calls-read_by.has (in_world W) true (made.found-calls::read_by W h) (sector_image W h b) b.1.1.1.1.1.1.0 b.1.1.1.1.1.1.1.0 b.1.1.1.1.1.1.1.1.0
+    parts.calls-read_by.has (in_world W) true (made.found-calls::read_by W h) (sector_image W h b) b.1.1.1.1.1.1.1.0 b.1.1.1.1.1.1.1.1.0 b.1.1.1.1.1.1.0
 
 pub release_course : Linked parts.calls-release_course.code
 release_course W h b =
-    parts.calls-release_course.has (in_world W) true (made.found-calls::release_course W h) b.0 b.1.0 b.1.1.0 b.1.1.1.1.1.1.1.1.0
+    parts.calls-release_course.has (in_world W) true (made.found-calls::release_course W h) (mapped_entry W h b) b.1.1.0
 
 pub release_within : Linked parts.calls-release_within.code
 release_within W h b =

@@ -6,6 +6,7 @@
 // its work. (With `match`, and not with `?`: no function of std is called in what the public calls stand on; ranges/src/lib.rt says why.)
 ghost use Rattle.std.specs.Prelude.{◌≡◌, ◌<◌, length, Ok, IfOk};
 ghost use Rattle.answers.specs.Answers.{answer_of};
+ghost use Rattle.image.specs.Views.{of_image};
 ghost use Rattle.flash.specs.Steps.{first_of};
 ghost use Rattle.calls.specs.Refusals.{first_that_applies, sector_rows, read_answer, write_answer, release_answer};
 ghost use Rattle.calls.specs.Courses.{write_course, release_course, repair_course};
@@ -94,7 +95,23 @@ pub fn write_course(
     writing::filling::plan(&image)
 }
 
-// The course of a release of n likewise, with n looked up by a table of any length: the entry that becomes invalid.
+// The entry that a release of n makes invalid, of an image past rows 1 and 3: rows 4 and 5.
+fn mapped_entry(image: &View, n: u32, table: &[u16]) -> Result<Option<Location>, Refusal>
+    requires { n < image.now.geo.logical }
+    ensures { result ≡ of_image release_course image.now n }
+{
+    if let Err(fault) = checking::first_fault(image) {
+        return Err(Refusal::from(fault));
+    }
+    match tables::look_up(image, n, table) {
+        Some(live) => Ok(Some(live)),
+        None => Err(Refusal::Unmapped),
+    }
+}
+
+// The course of a release of n likewise, with n looked up by a table of any length: the entry that becomes invalid. (Always inlined, so that a step of a
+// release that is refused by row 1 or 3 hands nothing on.)
+#[inline(always)]
 pub fn release_course(
     image: &[u32],
     geo: Geometry,
@@ -109,13 +126,7 @@ pub fn release_course(
     if n >= geo.logical {
         return Err(Refusal::BadNumber);
     }
-    if let Err(fault) = checking::first_fault(&image) {
-        return Err(Refusal::from(fault));
-    }
-    match tables::look_up(&image, n, table) {
-        Some(live) => Ok(Some(live)),
-        None => Err(Refusal::Unmapped),
-    }
+    mapped_entry(&image, n, table)
 }
 
 // The course of a repair: its rows, 1, 4, 10 and 6 in this order. The pair of 4 is looked for only where there is a fault that cannot be mended.

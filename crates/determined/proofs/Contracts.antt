@@ -2,7 +2,7 @@
 -- is found in the tables of all crates. The outcome, `_`, is read off the clauses, which are its equations by computation. Assumes nothing.
 use mathlib.Core.Path.{refl}
 use mathlib.Core.List.{[], ◌∷◌}
-use Rattle.determined.specs.Contracts.{EveryContract, number, bad_block, bad_rule, format, check, report, read, write, release, repair, write_step, release_step, repair_step, write_first, release_first, repair_first, build_table, read_with_table, write_with_table, release_with_table, c_format, c_check, c_report, c_read, c_write, c_release, c_repair, c_write_step, c_release_step, c_repair_step, c_write_first, c_release_first, c_repair_first, c_build_table, c_read_with_table, c_write_with_table, c_release_with_table, start, record_of, short, carry_out, end, reply, last}
+use Rattle.determined.specs.Contracts.{EveryContract, number, bad_block, bad_rule, from_fault, format, check, report, read, write, release, repair, write_step, release_step, repair_step, write_first, release_first, repair_first, build_table, read_with_table, write_with_table, release_with_table, c_format, c_check, c_report, c_read, c_write, c_release, c_repair, c_write_step, c_release_step, c_repair_step, c_write_first, c_release_first, c_repair_first, c_build_table, c_read_with_table, c_write_with_table, c_release_with_table, start, record_of, short, carry_out, end, reply, last}
 use Rattle.determined.proofs.Law.{kept, count, words, left, determined, nothing}
 use Rattle.determined.proofs.Links.{in_answers, in_shellwaltz, in_stepwise, in_tabled, in_shellwaltz_c, in_records, in_text}
 use Rattle.answers.proofs as answers
@@ -25,6 +25,9 @@ every-contract =
       of_bad_rule =
           determined bad_rule (left (kept ∷ [])) _ nothing (λ w c g o. refl)
           (λ M. answers.bad_rule.Met.met) (in_answers bad_rule.code answers.Links.bad_rule);
+      of_from_fault =
+          determined from_fault (left (kept ∷ [])) _ nothing (λ w c g o. refl)
+          (λ M. answers.RefusalFromFault.from.Met.met) (in_answers from_fault.code answers.Links.RefusalFromFault-from);
       of_format =
           determined format (left (words ∷ kept ∷ [])) _ nothing (λ w c g o. refl)
           (λ M. calls.format.Met.met) (in_shellwaltz format.code calls.Links.format);

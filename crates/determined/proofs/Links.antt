@@ -209,6 +209,7 @@ below-naming =
     image.view-Block-entries all holds-image below-image &
     rules.NumberSet-is_marked all holds-rules below-rules &
     image.view-Block-own_slot all holds-image below-image &
+    image.kinds-BlockKinds-live_at all holds-image below-image &
     geometry.Geometry-d all holds-geometry below-geometry &
     ranges.all all holds-ranges below-ranges &
     rules.NumberSet-mark all holds-rules below-rules &
@@ -314,21 +315,21 @@ below-placing : placing.Below all
 below-placing =
     image.view-Block-entries all holds-image below-image &
     image.view-View-block all holds-image below-image &
-    flash.run-Run-program all holds-flash below-flash &
-    geometry.Geometry-entries_start all holds-geometry below-geometry &
-    bits.clear_bit all holds-bits below-bits &
-    flash.run-Run-view all holds-flash below-flash &
-    bits.lesser all holds-bits below-bits &
-    flash.steps-program all holds-flash below-flash &
-    geometry.Geometry-contents_start all holds-geometry below-geometry &
-    geometry.Geometry-map_start all holds-geometry below-geometry &
     bits.greater all holds-bits below-bits &
+    bits.lesser all holds-bits below-bits &
     geometry.Geometry-d all holds-geometry below-geometry &
+    blocks.is_full all holds-blocks below-blocks &
+    flash.run-Run-program all holds-flash below-flash &
+    flash.run-Run-view all holds-flash below-flash &
+    geometry.Geometry-start all holds-geometry below-geometry &
     image.kinds-BlockKinds-block all holds-image below-image &
     image.kinds-BlockKinds-live_at all holds-image below-image &
     image.kinds-BlockKinds-live_between all holds-image below-image &
-    blocks.is_full all holds-blocks below-blocks &
-    geometry.Geometry-start all holds-geometry below-geometry &
+    geometry.Geometry-entries_start all holds-geometry below-geometry &
+    bits.clear_bit all holds-bits below-bits &
+    flash.steps-program all holds-flash below-flash &
+    geometry.Geometry-contents_start all holds-geometry below-geometry &
+    geometry.Geometry-map_start all holds-geometry below-geometry &
     image.Entry-begun all holds-image below-image &
     image.Entry-complete all holds-image below-image &
     tables.look_up all holds-tables below-tables &
@@ -502,9 +503,9 @@ below-calls =
     mending.is_mendable all holds-mending below-mending &
     repairing.plan all holds-repairing below-repairing &
     repairing.repair_along all holds-repairing below-repairing &
+    tables.look_up all holds-tables below-tables &
     image.view-Block-copy_contents all holds-image below-image &
     image.view-View-block all holds-image below-image &
-    tables.look_up all holds-tables below-tables &
     placing.release all holds-placing below-placing &
     tables.note all holds-tables below-tables &
     writing.filling-plan all holds-writing below-writing &

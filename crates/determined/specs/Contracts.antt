@@ -1,7 +1,7 @@
 -- The contract of every public function determines what a call does: the answer, each count, the whole image, the buffer and the table. A contract is
 -- here what the toolchain makes of the clauses in the source, so one that is dropped or weakened there makes its line of `EveryContract` false.
 --
--- To add a public function: give it no `requires`, and as `ensures` equations whose right sides name the arguments alone, one for the result
+-- To add a public function, or one of a trait for a public type: give it no `requires`, and as `ensures` equations whose right sides name the arguments alone, one for the result
 -- and then one for each `&mut` parameter, in the parameters' order. Name it here, add a line to `EveryContract` and one to its proof,
 -- and run tools/links.py.
 use Rattle.determined.specs.Determined.{Function, Determined}
@@ -29,6 +29,10 @@ bad_block = record { ended = answers.bad_block.ended; clauses = λ M 𝓤. answe
 
 abbrev pub bad_rule : Function
 bad_rule = record { ended = answers.bad_rule.ended; clauses = λ M 𝓤. answers.bad_rule.clauses; name = answers_code.bad_rule.Symbol.name; code = answers_code.bad_rule.Symbol.code }
+
+-- a pair that fails as a refusal
+abbrev pub from_fault : Function
+from_fault = record { ended = answers.RefusalFromFault.from.ended; clauses = λ M 𝓤. answers.RefusalFromFault.from.clauses; name = answers_code.RefusalFromFault.from.Symbol.name; code = answers_code.RefusalFromFault.from.Symbol.code }
 
 -- ---- the calls
 abbrev pub format : Function
@@ -170,6 +174,7 @@ pub record EveryContract : Type 2 where
   pub of_number : Determined number
   pub of_bad_block : Determined bad_block
   pub of_bad_rule : Determined bad_rule
+  pub of_from_fault : Determined from_fault
   pub of_format : Determined format
   pub of_check : Determined check
   pub of_report : Determined report

@@ -74,13 +74,22 @@ impl Geometry {
         (room - logical + (others - 1)) / others
     }
 
-    // Whether the three numbers are within their limits.
+    // Whether the three numbers are within their limits. (One after the other, so that a call that
+    // is refused for one looks at no more.)
     pub fn within_limits(self) -> bool
         ensures { result ≡ within_limits self }
     {
         let logical = self.logical as usize;
-        let room = all_but_one(self.blocks) * self.d();
-        is_side(self.blocks) & is_side(self.sectors) & ((1 <= logical) & (logical < room))
+        if logical < 1 {
+            return false;
+        }
+        if !is_side(self.blocks) {
+            return false;
+        }
+        if !is_side(self.sectors) {
+            return false;
+        }
+        logical < all_but_one(self.blocks) * self.d()
     }
 
     // Where block b starts. These four say where things lie, for a block of a geometry that is within its limits.

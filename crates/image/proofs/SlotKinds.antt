@@ -1,10 +1,12 @@
 -- A slot that the code found not to be live, or not to be of some kind without a number: what the tests of slots say of it. Assumes nothing.
-use mathlib.Core.Path.{◌≡◌, refl, ap}
-use mathlib.Core.Bool.{Bool, false}
+use mathlib.Core.Path.{◌≡◌, refl, sym, ap, ◌∙◌}
+use mathlib.Core.Bool.{Bool, false, true≢false}
 use Prim.Native.Nat.{ℕ}
+use Rattle.std.specs.Prelude.{Some, None, is_some, unwrap_or}
 use Rattle.image.specs.declared.Slot.{Slot}
 use Rattle.image.specs.declared.Slot.TheVariants.{Free, Live, Dead, Faulty, Superseded}
 use Rattle.image.specs.Found.{Found, At, Nothing}
+use Rattle.image.specs.Live.{live_number}
 use Rattle.image.specs.Slots.{is_free, is_live, is_faulty, is_live_with}
 
 -- no number makes it a live slot
@@ -38,6 +40,17 @@ not_faulty (Live n) other = refl
 not_faulty Dead other = refl
 not_faulty Faulty other = absurd (other refl)
 not_faulty Superseded other = refl
+
+-- a slot that has a live number is live for that one; one that has none, for none
+pub live-is : (s : Slot) {n : ℕ} → Some n ≡ live_number s → s ≡ Live n
+live-is Free e = absurd (true≢false (ap is_some e))
+live-is (Live m) {n} e = ap Live (ap (λ o. unwrap_or o m) (sym e))
+live-is Dead e = absurd (true≢false (ap is_some e))
+live-is Faulty e = absurd (true≢false (ap is_some e))
+live-is Superseded e = absurd (true≢false (ap is_some e))
+
+pub none-live : (s : Slot) → ((n : ℕ) → Some n ≡ live_number s → ⊥) → NotLive s
+none-live s none n e = none n (sym (ap live_number e))
 
 -- a place that was found is one block and one slot
 place_of : Found → ℕ × ℕ

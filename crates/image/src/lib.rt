@@ -32,7 +32,8 @@ pub struct Tally {
     pub dead: u32,
 }
 
-// What the check names (K1): a block and the rule that fails there, by its number; two zeros where nothing fails.
+// What the check names (K1): a block and the rule that fails there, by its number. (Where nothing fails it names none; the definition
+// `first_fault` has two zeros then.)
 #[derive(Clone, Copy, Debug, PartialEq, Eq)]
 pub struct Fault {
     pub block: u32,

@@ -19,6 +19,7 @@ Below W =
     (HasT (in_world W) true Rattle.image.proofs.view.Block.entries.Symbol.code ×
     (HasT (in_world W) true Rattle.rules.proofs.NumberSet.is_marked.Symbol.code ×
     (HasT (in_world W) true Rattle.image.proofs.view.Block.own_slot.Symbol.code ×
+    (HasT (in_world W) true Rattle.image.proofs.kinds.BlockKinds.live_at.Symbol.code ×
     (HasT (in_world W) true Rattle.geometry.proofs.Geometry.d.Symbol.code ×
     (HasT (in_world W) true Rattle.ranges.proofs.all.Symbol.code ×
     (HasT (in_world W) true Rattle.rules.proofs.NumberSet.mark.Symbol.code ×
@@ -30,7 +31,7 @@ Below W =
     (HasT (in_world W) true Rattle.rules.proofs.rule4.Symbol.code ×
     (HasT (in_world W) true Rattle.rules.proofs.rule7.Symbol.code ×
     (HasT (in_world W) true Rattle.rules.proofs.NumberSet.new.Symbol.code ×
-    (Unit {0}))))))))))))))))
+    (Unit {0})))))))))))))))))
 
 abbrev pub Linked : Code → Type 0
 Linked c = (W : World) → Holds W "naming" table → Below W → HasT (in_world W) true c
@@ -53,7 +54,7 @@ judged-Judged-slot W h b =
 
 pub judged-JudgedKinds-live_at : Linked parts.naming-judged-JudgedKinds-live_at.code
 judged-JudgedKinds-live_at W h b =
-    parts.naming-judged-JudgedKinds-live_at.has (in_world W) true (made.found-naming::judged::JudgedKinds::live_at W h) (judged-Judged-slot W h b)
+    parts.naming-judged-JudgedKinds-live_at.has (in_world W) true (made.found-naming::judged::JudgedKinds::live_at W h) b.1.1.1.1.1.0 (judged-Judged-is_superseded W h b)
 
 judged-fn-Judged-rule8-all : Linked parts.naming-judged-fn-Judged-rule8-all.code
 judged-fn-Judged-rule8-all W h b =
@@ -73,11 +74,11 @@ judged-fn-Judged-rule8-all+FnOnce-call_once W h b =
 
 judged-Judged-rule8 : Linked parts.naming-judged-Judged-rule8.code
 judged-Judged-rule8 W h b =
-    parts.naming-judged-Judged-rule8.has (in_world W) true (made.found-naming::judged::Judged::rule8 W h) b.1.1.1.1.1.0 (Destruct++none-drop W h b) (judged-fn-Judged-rule8-all+Fn-call W h b) (judged-fn-Judged-rule8-all+FnMut-call_mut W h b) (judged-fn-Judged-rule8-all+FnOnce-call_once W h b) b.1.1.1.1.1.1.0
+    parts.naming-judged-Judged-rule8.has (in_world W) true (made.found-naming::judged::Judged::rule8 W h) b.1.1.1.1.1.1.0 (Destruct++none-drop W h b) (judged-fn-Judged-rule8-all+Fn-call W h b) (judged-fn-Judged-rule8-all+FnMut-call_mut W h b) (judged-fn-Judged-rule8-all+FnOnce-call_once W h b) b.1.1.1.1.1.1.1.0
 
 judged-fn-JudgedKinds-live_between-all : Linked parts.naming-judged-fn-JudgedKinds-live_between-all.code
 judged-fn-JudgedKinds-live_between-all W h b =
-    parts.naming-judged-fn-JudgedKinds-live_between-all.has (in_world W) true (made.found-naming::judged::fn::JudgedKinds::live_between::all W h) (judged-Judged-slot W h b)
+    parts.naming-judged-fn-JudgedKinds-live_between-all.has (in_world W) true (made.found-naming::judged::fn::JudgedKinds::live_between::all W h) (judged-JudgedKinds-live_at W h b)
 
 judged-fn-JudgedKinds-live_between-all+Fn-call : Linked parts.naming-judged-fn-JudgedKinds-live_between-all+Fn-call.code
 judged-fn-JudgedKinds-live_between-all+Fn-call W h b =
@@ -93,24 +94,24 @@ judged-fn-JudgedKinds-live_between-all+FnOnce-call_once W h b =
 
 pub judged-JudgedKinds-live_between : Linked parts.naming-judged-JudgedKinds-live_between.code
 judged-JudgedKinds-live_between W h b =
-    parts.naming-judged-JudgedKinds-live_between.has (in_world W) true (made.found-naming::judged::JudgedKinds::live_between W h) b.1.1.1.1.1.0 (Destruct++none-drop W h b) (judged-fn-JudgedKinds-live_between-all+Fn-call W h b) (judged-fn-JudgedKinds-live_between-all+FnMut-call_mut W h b) (judged-fn-JudgedKinds-live_between-all+FnOnce-call_once W h b) b.1.1.1.1.1.1.0
+    parts.naming-judged-JudgedKinds-live_between.has (in_world W) true (made.found-naming::judged::JudgedKinds::live_between W h) b.1.1.1.1.1.1.0 (Destruct++none-drop W h b) (judged-fn-JudgedKinds-live_between-all+Fn-call W h b) (judged-fn-JudgedKinds-live_between-all+FnMut-call_mut W h b) (judged-fn-JudgedKinds-live_between-all+FnOnce-call_once W h b) b.1.1.1.1.1.1.1.0
 
 pub judged-Judged-rule5 : Linked parts.naming-judged-Judged-rule5.code
 judged-Judged-rule5 W h b =
-    parts.naming-judged-Judged-rule5.has (in_world W) true (made.found-naming::judged::Judged::rule5 W h) b.1.1.1.1.1.0 (judged-Judged-slot W h b) b.1.1.1.1.1.1.1.0
+    parts.naming-judged-Judged-rule5.has (in_world W) true (made.found-naming::judged::Judged::rule5 W h) b.1.1.1.1.1.1.0 (judged-JudgedKinds-live_at W h b) b.1.1.1.1.1.1.1.1.0
 
 mark_completes : Linked parts.naming-mark_completes.code
 mark_completes W h b =
-    parts.naming-mark_completes.has (in_world W) true (made.found-naming::mark_completes W h) b.1.1.1.1.1.1.1.1.0 b.1.0 b.1.1.0 b.1.1.1.1.1.1.1.0
+    parts.naming-mark_completes.has (in_world W) true (made.found-naming::mark_completes W h) b.1.1.1.1.1.1.1.1.1.0 b.1.0 b.1.1.0 b.1.1.1.1.1.1.1.1.0
 
 pub mark_all_completes : Linked parts.naming-mark_all_completes.code
 mark_all_completes W h b =
-    parts.naming-mark_all_completes.has (in_world W) true (made.found-naming::mark_all_completes W h) b.1.1.1.1.1.1.1.1.1.0 (mark_completes W h b)
+    parts.naming-mark_all_completes.has (in_world W) true (made.found-naming::mark_all_completes W h) b.1.1.1.1.1.1.1.1.1.1.0 (mark_completes W h b)
 
 broken_rule : Linked parts.naming-broken_rule.code
 broken_rule W h b =
-    parts.naming-broken_rule.has (in_world W) true (made.found-naming::broken_rule W h) (judged-Judged-rule5 W h b) (judged-Judged-rule8 W h b) (judged-JudgedKinds-block W h b) (judged-JudgedKinds-live_at W h b) (judged-JudgedKinds-live_between W h b) b.1.1.1.1.1.1.1.1.1.1.0 b.1.1.1.1.1.1.1.1.1.1.1.0 b.1.1.1.1.1.1.1.1.1.1.1.1.0 b.1.1.1.1.1.1.1.1.1.1.1.1.1.0 b.1.1.1.1.1.1.1.1.1.1.1.1.1.1.0
+    parts.naming-broken_rule.has (in_world W) true (made.found-naming::broken_rule W h) (judged-Judged-rule5 W h b) (judged-Judged-rule8 W h b) (judged-JudgedKinds-block W h b) (judged-JudgedKinds-live_at W h b) (judged-JudgedKinds-live_between W h b) b.1.1.1.1.1.1.1.1.1.1.1.0 b.1.1.1.1.1.1.1.1.1.1.1.1.0 b.1.1.1.1.1.1.1.1.1.1.1.1.1.0 b.1.1.1.1.1.1.1.1.1.1.1.1.1.1.0 b.1.1.1.1.1.1.1.1.1.1.1.1.1.1.1.0
 
 pub first_bad : Linked parts.naming-first_bad.code
 first_bad W h b =
-    parts.naming-first_bad.has (in_world W) true (made.found-naming::first_bad W h) b.1.1.1.1.1.1.1.1.1.0 (broken_rule W h b) (mark_all_completes W h b) b.1.1.1.1.1.1.1.1.1.1.1.1.1.1.1.0
+    parts.naming-first_bad.has (in_world W) true (made.found-naming::first_bad W h) b.1.1.1.1.1.1.1.1.1.1.0 (broken_rule W h b) (mark_all_completes W h b) b.1.1.1.1.1.1.1.1.1.1.1.1.1.1.1.1.0

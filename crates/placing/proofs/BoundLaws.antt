@@ -9,7 +9,7 @@ use native.Mathlib.Numerals.{add-one}
 use borrow.Author.Tests.{eq-eqb, ne_eqb, lt-ltb, le-ltb}
 use Rattle.std.specs.Prelude.{Option, Some, None, is_some, unwrap_or}
 use Rattle.ranges.specs.Range.{or_at, any_below, first_below, last_below}
-use Rattle.ranges.proofs.Searches.{best-passes, best-some, best_none, best-ext, first-before, first-is, last-after, last-is}
+use Rattle.ranges.proofs.Searches.{best-passes, best-some, best_none, best-le, best-ext, first-before, first-is, last-after, last-is}
 use Rattle.ranges.proofs.Tests.{any-ext}
 use Rattle.geometry.specs.declared.Geometry.{Geometry}
 use Rattle.geometry.specs.Geometry.{d}
@@ -83,9 +83,6 @@ module _ (m : ℕ) (bounds : LiveBounds) where
   pub bounds-found : {x : LiveBounds} → x ≡ bounds → bounds.least < m → Some x ≡ bounds_below m bounds
   bounds-found e l = rw (e, lt-ltb bounds.least m l)
 
-  pub bounds-missing : m ≤ bounds.least → None ≡ bounds_below m bounds
-  bounds-missing l = rw (le-ltb bounds.least m l)
-
   -- and back: what an answer says of them
   pub bounds-some : {x : LiveBounds} → Some x ≡ bounds_below m bounds → (x ≡ bounds) × (bounds.least < m)
   bounds-some {x} e = go (dec_lt bounds.least m)
@@ -114,14 +111,7 @@ bounds-or m f {live = None} e =
 
 -- ---- of the numbers live in the slots that a loop has passed
 
--- where a slot has a live number, it is live for that one; where it has none, for no number
-pub live-is : (s : Slot) {n : ℕ} → Some n ≡ live_number s → s ≡ Live n
-live-is Free e = absurd (true≢false (ap is_some e))
-live-is (Live m) {n} e = ap Live (ap (λ o. unwrap_or o m) (sym e))
-live-is Dead e = absurd (true≢false (ap is_some e))
-live-is Faulty e = absurd (true≢false (ap is_some e))
-live-is Superseded e = absurd (true≢false (ap is_some e))
-
+-- a slot that has no live number is live for no number
 pub live-not : (s : Slot) → ((n : ℕ) → Some n ≡ live_number s → ⊥) → (n : ℕ) → is_live_for n s ≡ false
 live-not Free e n = refl
 live-not (Live m) e n = absurd (e m refl)
@@ -129,32 +119,55 @@ live-not Dead e n = refl
 live-not Faulty e n = refl
 live-not Superseded e n = refl
 
--- before the first slot
-pub none-live : (m : ℕ) (slots : ℕ → Slot) → None ≡ bounds_below m (bounds_of m (live_among slots 0))
-unfolding any_below
-none-live m slots = bounds-missing m (bounds_of m (live_among slots 0)) (omega (arith, best_none (λ i r. false) m (live_among slots 0) (λ i l. refl)))
+-- what a loop over slots has of the numbers below m that pass: the first, or m; and the last, or 0
+pub record Passed (m : ℕ) (f : ℕ → Bool) (least greatest : ℕ) : Type 0 where
+  pub first : least ≡ first_below m f
+  pub last : first_below m f < m → greatest ≡ last_below m f
+  pub none : m ≤ first_below m f → greatest ≡ 0
 
-module _ (m : ℕ) (slots : ℕ → Slot) (i : ℕ) {live : Option LiveBounds} (before : live ≡ bounds_below m (bounds_of m (live_among slots i))) where
+-- before the first slot
+pub none-live : (m : ℕ) (slots : ℕ → Slot) → Passed m (live_among slots 0) m 0
+unfolding any_below
+none-live m slots =
+    let no : first_below m (live_among slots 0) ≡ m = best_none (λ i r. false) m (live_among slots 0) (λ i l. refl) in
+    record { first = sym no; last = λ h. absurd (omega (arith, no, h)); none = λ h. refl }
+
+module _ (m : ℕ) (slots : ℕ → Slot) (i : ℕ) {least greatest : ℕ} (before : Passed m (live_among slots i) least greatest) where
   -- the slots passed and this one
   one_more : (n : ℕ) → live_among slots (i + 1) n ≡ (live_among slots i n || is_live_for n (slots i))
   unfolding any_below
   one_more n = rw add-one
 
   -- one slot more that is live
-  pub with-live :
-      {n : ℕ} {wider : LiveBounds} →
-      slots i ≡ Live n →
-      n < m →
-      ((m : ℕ) (f : ℕ → Bool) → n < m → live ≡ bounds_below m (bounds_of m f) → wider ≡ bounds_of m (or_at f n)) →
-      Some wider ≡ bounds_below m (bounds_of m (live_among slots (i + 1)))
-  with-live {n} e l widens =
+  pub with-live : {n : ℕ} → slots i ≡ Live n → n < m → Passed m (live_among slots (i + 1)) (min n least) (max n greatest)
+  with-live {n} e l =
       let all = bounds-ext m (λ x l. sym (one_more x ∙ ap (λ (s : Slot). live_among slots i x || is_live_for x s) e)) in
-      bounds-found m (bounds_of m (live_among slots (i + 1))) (widens m (live_among slots i) l before ∙ all)
-      (omega (arith, ap (λ (b : LiveBounds). b.least) all, first_more m (live_among slots i) l))
+      let first = ap (λ (b : LiveBounds). b.least) all in
+      let last = ap (λ (b : LiveBounds). b.greatest) all in
+      let lower = first_more m (live_among slots i) l in
+      record {
+        first = omega (arith, before.first, lower, first);
+        last = λ h. omega (arith, last, go (dec_lt (first_below m (live_among slots i)) m));
+        none = λ h. absurd (omega (arith, lower, first, l, h));
+      }
+    where
+      go : Dec (first_below m (live_among slots i) < m) → max n greatest ≡ last_below m (or_at (live_among slots i) n)
+      go (yes k) = omega (arith, before.last k, last_more m (live_among slots i) l k)
+      go (no k) =
+          let same : first_below m (live_among slots i) ≡ m = omega (arith, best-le (λ x r. false) m (live_among slots i)) in
+          omega (arith, before.none (omega (arith, same)), last_one m (live_among slots i) l same)
 
   -- one slot more that is not
-  pub without : {s : Slot} → slots i ≡ s → ((n : ℕ) → is_live_for n s ≡ false) → live ≡ bounds_below m (bounds_of m (live_among slots (i + 1)))
-  without e none = before ∙ ap (bounds_below m) (bounds-ext m (λ x l. sym (one_more x ∙ rw (e, none x) (or-false (live_among slots i x)))))
+  pub without : {s : Slot} → slots i ≡ s → ((n : ℕ) → is_live_for n s ≡ false) → Passed m (live_among slots (i + 1)) least greatest
+  without e none =
+      let all = bounds-ext m (λ x l. sym (one_more x ∙ rw (e, none x) (or-false (live_among slots i x)))) in
+      let first = ap (λ (b : LiveBounds). b.least) all in
+      let last = ap (λ (b : LiveBounds). b.greatest) all in
+      record {
+        first = before.first ∙ first;
+        last = λ h. before.last (omega (arith, first, h)) ∙ last;
+        none = λ h. before.none (omega (arith, first, h));
+      }
 
 -- ---- of a block
 

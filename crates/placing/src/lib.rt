@@ -90,18 +90,26 @@ pub fn widened(live: Option<LiveBounds>, n: u32) -> LiveBounds
     }
 }
 
-// The least and the greatest number live in a block, if any is.
+// The least and the greatest number live in a block, if any is. (L and 0 are what no number lowers and none raises, so that a turn of the loop asks for
+// none of the turns before it.)
 pub fn live_bounds<K: Kinds>(kinds: &K) -> Option<LiveBounds>
     ensures { result ≡ bounds_among (K.block_of kinds.now).image.geo (K.kind kinds.now (K.block_of kinds.now).index) }
 {
-    let d = kinds.block().image.geo.d();
-    let mut live = None;
+    let geo = kinds.block().image.geo;
+    let d = geo.d();
+    let logical = geo.logical;
+    let mut least = logical;
+    let mut greatest = 0u32;
     for i in 0..d {
         if let Some(n) = kinds.live_at(i) {
-            live = Some(widened(live, n));
+            least = bits::lesser(n, least);
+            greatest = bits::greater(n, greatest);
         }
     }
-    live
+    if least == logical {
+        return None;
+    }
+    Some(LiveBounds { least, greatest })
 }
 
 // The same with n as one of the numbers. Whether an entry is live, its own kind says where none is superseded.

@@ -192,7 +192,6 @@ pub count-not : (m : ℕ) (f : ℕ → Bool) → count_below m f + count_below m
 count-not m f =
     omega (arith, sum-add m (λ i. one_if (f i)) (λ i. one_if (not (f i))), sum-ext m (λ i l. one-if-not (f i)), sum-const m 1)
 
--- no index, and none
 -- one index more, that passes
 pub count-more : (i : ℕ) (f : ℕ → Bool) {passed : ℕ} → passed ≡ count_below i f → f i ≡ true → passed + 1 ≡ count_below (i + 1) f
 unfolding sum_below
@@ -203,6 +202,7 @@ pub count-same : (i : ℕ) (f : ℕ → Bool) {passed : ℕ} → passed ≡ coun
 unfolding sum_below
 count-same i f before t = rw (add-one i, t, ← before) (omega arith)
 
+-- no index, and none
 pub count_none : (m : ℕ) {f : ℕ → Bool} → ((i : ℕ) → i < m → f i ≡ false) → count_below m f ≡ 0
 count_none m h = sum-zero m (λ i l. ap one_if (h i l))
 

@@ -2,8 +2,9 @@
 
 // Tests, sums, lists and searches over 0, 1, .. m − 1: their definitions are in specs/, the laws of these in proofs/, and here are those that run,
 // each over a closure that is asked at the indices in turn.
-// No function of std is called in what the public calls stand on: `determined` proves of each of them that an environment has its code (`runs`),
-// and std's tables cannot be named there. So these stand in the place of the methods of an iterator.
+// No function of std is called in what the public calls stand on, but for what the compiler has itself (`trailing_zeros`, `count_ones`): `determined`
+// proves of each of them that an environment has its code (`runs`), and std's tables cannot be named there. So these stand in the place of the methods of
+// an iterator.
 ghost use Rattle.std.specs.Prelude.{Bool, ◌≡◌, ℕ, ◌<◌, ◌^◌};
 ghost use Rattle.ranges.specs.Asked.{MayBeAsked, Tells};
 ghost use Rattle.ranges.specs.Range.{all_below, count_below, first_below, best_below, index_below, largest_below, nth_passing, pair_below, by_key};

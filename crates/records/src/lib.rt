@@ -2,7 +2,7 @@
 
 // A script's records (docs/FORMAT.md, The script program): what the bytes of one say, and what it does to the script's image and to its L, the number
 // of logical sectors. The crate `text` goes from the bytes that are read to those that are printed.
-// (An image and its L stay two parameters: determined's `EveryContract` has `end`, `carry_out` and text's `reply` and `last` with both.)
+// (An image and its L stay two parameters: the contracts of `end` and `carry_out`, and of text's `reply` and `last`, have an equation for each of the two.)
 ghost use Rattle.std.specs.Prelude.{◌≡◌, ◌+◌, ◌≤◌};
 ghost use Rattle.geometry.specs.Geometry.{filled};
 ghost use Rattle.calls.specs.Calls.{formatted, written, released};

@@ -18,7 +18,7 @@ pub fn count_in_block(block: &Block, i: u32) -> ControlFlow<Step, u32>
 {
     if count_unset(block) {
         let at = block.image.geo.start(block.index);
-        return single_step(true, at, largest_other(block), i);
+        return single_step(true, at, largest_other(&block.image, block.index), i);
     }
     ControlFlow::Continue(i)
 }

@@ -8,7 +8,7 @@ ghost use Rattle.image.specs.Blocks.{live_slots, lowest_open};
 ghost use Rattle.image.specs.WellFormed.{ceiling, MapsAgree};
 ghost use Rattle.image.specs.Mending.{mendable};
 ghost use Rattle.image.specs.Views.{of_image};
-ghost use Rattle.flash.specs.Steps.{erasures_in, first_of};
+ghost use Rattle.flash.specs.Steps.{progress};
 ghost use Rattle.flash.specs.Writing.{EachInTurn, copying, reclaiming};
 ghost use Rattle.flash.specs.Repairing.{repairing, room_in};
 ghost use Rattle.flash.specs.Runs.{Does, of_run};
@@ -110,7 +110,7 @@ fn empty(run: &mut Run, v: usize) -> u32
     requires v_bound { of_run erase_count run.old v < ceiling }
     requires each_in_turn { of_run lowest_open run.old < run.old.geo.blocks → of_run EachInTurn run.old v (of_run lowest_open run.old) }
     requires v_value { run.old.geo.blocks ≤ of_run lowest_open run.old → of_run live_slots run.old v ≡ 0 }
-    ensures value { result ≡ erasures_in (first_of run.old.left (of_run reclaiming run.old v (of_run lowest_open run.old))) }
+    ensures value { result ≡ (progress run.old.left (of_run reclaiming run.old v (of_run lowest_open run.old))).erasures }
     ensures run_after { Does run.old run.new (of_run reclaiming run.old v (of_run lowest_open run.old)) }
 {
     let count = run.view().block(v).erase_count();
@@ -126,7 +126,7 @@ fn empty(run: &mut Run, v: usize) -> u32
 pub fn repair_along(run: &mut Run, plan: RepairPlan) -> u32
     requires image_value { of_run mendable run.old ≡ true }
     requires plan_value { plan_or_refusal (of_run repair_planned run.old) ≡ Ok plan }
-    ensures value { result ≡ erasures_in (first_of run.old.left (of_run repairing run.old)) }
+    ensures value { result ≡ (progress run.old.left (of_run repairing run.old)).erasures }
     ensures run_after { Does run.old run.new (of_run repairing run.old) }
 {
     mend(run);

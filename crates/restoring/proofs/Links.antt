@@ -90,4 +90,4 @@ restore_bounds W h b =
 
 pub restore_count : Linked parts.restoring-restore_count.code
 restore_count W h b =
-    parts.restoring-restore_count.has (in_world W) true (made.found-restoring::restore_count W h) b.1.1.1.1.0 b.1.1.1.1.1.1.0 b.1.1.1.1.1.1.1.0 b.1.0 b.1.1.1.1.1.1.1.1.1.1.1.1.0 (Destruct++none-drop W h b) (fn-restore_count-find+Fn-call W h b) (fn-restore_count-find+FnMut-call_mut W h b) (fn-restore_count-find+FnOnce-call_once W h b) (largest_other W h b)
+    parts.restoring-restore_count.has (in_world W) true (made.found-restoring::restore_count W h) b.1.1.1.1.0 b.1.1.1.1.1.1.0 b.1.1.1.1.1.1.1.0 b.1.1.1.1.1.1.1.1.1.1.1.1.0 (Destruct++none-drop W h b) (fn-restore_count-find+Fn-call W h b) (fn-restore_count-find+FnMut-call_mut W h b) (fn-restore_count-find+FnOnce-call_once W h b) (largest_other W h b)

@@ -5,7 +5,7 @@ ghost use Rattle.std.specs.Prelude.{true, cond, [], ◌∷◌, ◌++◌, ◌≡�
 ghost use Rattle.std.specs.Option.{unwrap_or};
 ghost use Rattle.image.specs.WellFormed.{R2, NoneSuperseded};
 ghost use Rattle.image.specs.Mending.{mendable};
-ghost use Rattle.image.specs.Views.{of_block};
+ghost use Rattle.image.specs.Views.{of_image};
 ghost use Rattle.flash.specs.declared.Step.TheVariants.{Program};
 ghost use Rattle.flash.specs.Repairing.{sets_least, sets_greatest, bounding, largest_other, counting};
 ghost use Rattle.flash.specs.Runs.{Does, of_run};
@@ -13,7 +13,7 @@ ghost use Rattle.flash.specs.Runs.{Does, of_run};
 use blocks::{count_unset, is_full};
 use flash::LiveBounds;
 use flash::run::Run;
-use image::view::Block;
+use image::view::View;
 use placing::live_bounds;
 use ranges::{find, largest};
 
@@ -74,13 +74,12 @@ pub fn restore_bounds(run: &mut Run)
     }
 }
 
-// The largest erase count of the blocks other than this one.
-pub fn largest_other(block: &Block) -> u32
-    ensures { result ≡ of_block largest_other block.now }
+// The largest erase count of the blocks other than b, whatever b is.
+pub fn largest_other(image: &View, b: usize) -> u32
+    ensures { result ≡ of_image largest_other image.now b }
 {
-    let image = block.image;
     largest(image.geo.blocks as usize, |c| {
-        if c == block.index {
+        if c == b {
             0
         } else {
             image.block(c).erase_count()
@@ -98,7 +97,7 @@ pub fn restore_count(run: &mut Run)
         count_unset(&image.block(b))
     });
     if let Some(b) = unset {
-        let count = largest_other(&image.block(b));
+        let count = largest_other(&image, b);
         run.program(run.geo.start(b), count);
     }
 }

@@ -21,8 +21,9 @@ use Rattle.flash.specs.Steps.{words_in, erasures_in, step_at}
 use Rattle.flash.proofs.Stores.{run_none}
 use Rattle.answers.specs.declared.Refusal.{Refusal}
 use Rattle.answers.specs.declared.Refusal.TheVariants.{BadGeometry}
-use Rattle.answers.specs.Answers.{Answer, Accepted, answer_of}
+use Rattle.answers.specs.Answers.{Answer, Accepted, answer_of, number_of, block_of, rule_of}
 use Rattle.answers.proofs.Acceptance.{if-refused, of-answered, not-accepted}
+use Rattle.calls.specs.Outcomes.{Outcome}
 use Rattle.calls.specs.Refusals.{format_answer, check_answer, read_answer, write_answer, release_answer, repair_answer}
 use Rattle.calls.specs.Calls.{
   format_outcome,
@@ -226,6 +227,38 @@ module _ {geo : Geometry} (b s l : ℕ) (e : geo ≡ shape (narrowed b) (narrowe
     narrowing (λ x. repair_first_outcome x image j) (outcome (Err BadGeometry) []) (λ x out. rw (out, take-nil {A = Step} j)) b s l e,
     narrowing (λ x. repaired_first x image j) image (λ x out. rw (out, take-nil {A = Step} j) (run_none x image)) b s l e,
   )
+
+-- what a call gave, and what it gives for the numbers handed in: the answer by its number, the image, and the two counts
+pub parts :
+    {number : ℕ} {gave passed says : Outcome} {left passes leaves : Image} →
+    number ≡ number_of gave.answer →
+    (gave ≡ passed) × (left ≡ passes) →
+    (passed ≡ says) × (passes ≡ leaves) →
+    (number ≡ number_of says.answer) × ((left ≡ leaves) × ((gave.words ≡ says.words) × (gave.erasures ≡ says.erasures)))
+parts is_number (gives, leaves-it) (same, same-image) = (
+  is_number ∙ ap (λ o. number_of o.answer) (gives ∙ same),
+  (leaves-it ∙ same-image, (ap (λ o. o.words) (gives ∙ same), ap (λ o. o.erasures) (gives ∙ same))),
+)
+
+-- the pair that an answer names, and the one that it names for the numbers handed in
+pub names : {block rule : ℕ} {gave says : Answer} → block ≡ block_of gave → rule ≡ rule_of gave → gave ≡ says → (block ≡ block_of says) × (rule ≡ rule_of says)
+names is_Block is-rule same = (is_Block ∙ ap block_of same, is-rule ∙ ap rule_of same)
+
+-- the parts of a write, a release or a repair, and the pair
+pub parts-and-pair :
+    {number block rule : ℕ} {gave passed says : Outcome} {left passes leaves : Image} →
+    number ≡ number_of gave.answer →
+    block ≡ block_of gave.answer →
+    rule ≡ rule_of gave.answer →
+    (gave ≡ passed) × (left ≡ passes) →
+    (passed ≡ says) × (passes ≡ leaves) →
+    (number ≡ number_of says.answer)
+    × ((left ≡ leaves)
+    × ((gave.words ≡ says.words)
+    × ((gave.erasures ≡ says.erasures) × ((block ≡ block_of says.answer) × (rule ≡ rule_of says.answer)))))
+parts-and-pair is_number is_Block is-rule gives same =
+    let (number, (left, (words, erasures))) = parts is_number gives same in
+    (number, (left, (words, (erasures, names is_Block is-rule (ap (λ o. o.answer) (gives.0 ∙ same.0))))))
 
 -- ---- a refused call does no step
 module _ (geo : Geometry) (image : Image) where

@@ -15,7 +15,7 @@ use calls::Totals;
 use records::{Line, Record};
 
 // (Digits and lines are put by hand at the start of a lent buffer, and their length is answered: there is no heap for a String; `write!` into a slice
-// says neither which bytes it puts there nor that the rest stays; and `reply` and `last` are in determined's `EveryContract` as they are.)
+// says neither which bytes it puts there nor that the rest stays.)
 
 // The bytes of the longest line: a letter, five times a space and ten digits, a newline.
 pub const LONGEST_LINE: usize = 57;

@@ -3,7 +3,7 @@ ghost use Rattle.image.specs.Blocks.{victim};
 ghost use Rattle.image.specs.Views.{of_image};
 ghost use Rattle.image.specs.WellFormed.{MapsAgree, sound, well_formed};
 ghost use Rattle.flash.specs.Runs.{Does, of_run};
-ghost use Rattle.flash.specs.Steps.{first_of, erasures_in};
+ghost use Rattle.flash.specs.Steps.{progress};
 ghost use Rattle.flash.specs.Writing.{Reclaim, next_slot, must_reclaim, filling, reclaiming_first, writing, planned};
 ghost use Rattle.flash.specs.Tables.{table_filled, table_reclaimed_first, table_written};
 ghost use Rattle.writing.specs.Planned.{plan_or_refusal, place_below};
@@ -80,7 +80,7 @@ pub fn reclaim_and_fill(run: &mut Run, v: usize, sector: &Sector, table: &mut [u
     requires image_value { of_run well_formed run.old ≡ true }
     requires image_value_2 { of_run planned run.old ≡ Reclaim v }
     requires number_lt_logical { sector.now.number < run.old.geo.logical }
-    ensures value { result ≡ erasures_in (first_of run.old.left (of_run reclaiming_first run.old v sector.now.number sector.now.words.now)) }
+    ensures value { result ≡ (progress run.old.left (of_run reclaiming_first run.old v sector.now.number sector.now.words.now)).erasures }
     ensures run_after { Does run.old run.new (of_run reclaiming_first run.old v sector.now.number sector.now.words.now) }
     ensures table_after { (run.new.left ≡ 0 → ⊥) → table.new ≡ of_run table_reclaimed_first run.old v sector.now.number table.old }
 {
@@ -106,7 +106,7 @@ pub fn write_along(run: &mut Run, plan: WritePlan, sector: &Sector, table: &mut 
     requires image_value { of_run well_formed run.old ≡ true }
     requires plan_value { plan_or_refusal (of_run planned run.old) ≡ Ok plan }
     requires number_lt_logical { sector.now.number < run.old.geo.logical }
-    ensures value { result ≡ erasures_in (first_of run.old.left (of_run writing run.old sector.now.number sector.now.words.now)) }
+    ensures value { result ≡ (progress run.old.left (of_run writing run.old sector.now.number sector.now.words.now)).erasures }
     ensures run_after { Does run.old run.new (of_run writing run.old sector.now.number sector.now.words.now) }
     ensures table_after { (run.new.left ≡ 0 → ⊥) → table.new ≡ of_run table_written run.old sector.now.number table.old }
 {

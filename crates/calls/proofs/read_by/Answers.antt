@@ -1,5 +1,6 @@
 -- `calls::read_by` meets its contract: its tests are rows 1 to 5, asked in that order, and a sector that was found is copied.
 use mathlib.Core.Path.{◌≡◌, sym, ◌∙◌}
+use native.Mathlib.Omega.{arith}
 use Rattle.std.specs.Prelude.{Err}
 use Rattle.image.specs.Found.{At, Nothing}
 use Rattle.image.specs.Slots.{find}
@@ -47,10 +48,11 @@ returns-in_default-clause-buffer_after c =
     rw (read-passed _ _ _ _ (sym c.in-Ok.ensures.answer), missed (goal.at.returns-in_default-clause-buffer_after c).In_default)
 
 pub block-requires : goal.block-requires
-block-requires c = (live (goal.at.block-requires c).In-Some).block
+block-requires c = omega (arith, (live (goal.at.block-requires c).In-Some).block)
 
 pub copy_contents-requires-clause-i_bound : goal.copy_contents-requires-clause-i_bound
-copy_contents-requires-clause-i_bound c = rw c.block.ensures.image (live (goal.at.copy_contents-requires-clause-i_bound c).In-Some).slot_is
+copy_contents-requires-clause-i_bound c =
+    rw c.block.ensures.image (omega (arith, (live (goal.at.copy_contents-requires-clause-i_bound c).In-Some).slot_is))
 
 pub returns-clause-value : goal.returns-clause-value
 returns-clause-value c =

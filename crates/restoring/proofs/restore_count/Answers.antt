@@ -1,7 +1,10 @@
 -- `restoring::restore_count` meets its contract: the first block that was not given its count gets the one step. Assumes nothing.
-use Rattle.std.proofs.Common.{rules, true, false, ◌≡◌, sym, ap, ◌∙◌, arith}
+use Rattle.std.proofs.Common.{rules, true, false, ◌≡◌, ◌<◌, ℕ, sym, ap, ◌∙◌, arith}
+use Rattle.std.specs.Prelude.{Some}
 use Rattle.ranges.specs.Range.{first_below, index_below}
 use Rattle.ranges.proofs.Searches.{best-passes, first-before, index-some, index-none}
+use Rattle.geometry.specs.Places.{erase_word}
+use Rattle.geometry.proofs.Laws.{place_inside}
 use Rattle.image.specs.Mending.{count_unset}
 use Rattle.image.specs.WellFormed.{R2}
 use Rattle.image.specs.Views.{of_image}
@@ -26,8 +29,17 @@ find-unset-requires c i l =
 first : (c : After-find-unset) → let r = c.args.run.now in c.find-unset.result ≡ index_below r.geo.blocks (first_below r.geo.blocks (of_run count_unset r))
 first c = rw (c.view-image.ensures.words, c.view-image.ensures.geo) at (c.find-unset.ensures (of_image count_unset c.view-image.result) (λ i t l k. search rules))
 
-pub block-requires : goal.block-requires
-block-requires c = rw c.view-image.ensures.geo (index-some (sym (first (goal.at.block-requires c).After-find-unset) ∙ c.in-Some.is)).1
+-- a block was found
+inside : (c : After-find-unset) {b : ℕ} → c.find-unset.result ≡ Some b → b < c.args.run.now.geo.blocks
+inside c is = (index-some (sym (first c) ∙ is)).1
+
+pub start-requires-clause-b_lt_blocks : goal.start-requires-clause-b_lt_blocks
+start-requires-clause-b_lt_blocks c = inside (goal.at.start-requires-clause-b_lt_blocks c).After-find-unset c.in-Some.is
+
+pub program-requires : goal.program-requires
+program-requires c =
+    let run = c.args.run.now in
+    omega (arith, c.start.ensures, run.shaped.long, place_inside run.geo {j = erase_word} (inside (goal.at.program-requires c).After-find-unset c.in-Some.is) (omega (arith, run.shaped.limits.sectors_low)))
 
 pub returns-in_default : goal.returns-in_default
 returns-in_default c =
@@ -42,6 +54,6 @@ returns-in-Some c =
     let found = index-some (sym (first (goal.at.returns-in-Some c).After-find-unset) ∙ c.in-Some.is) in
     let unset : of_run count_unset r b ≡ true = ap (of_run count_unset r) (sym found.0) ∙ best-passes (λ i s. false) r.geo.blocks (of_run count_unset r) (omega (arith, found)) in
     let count : c.largest_other-count.result ≡ of_run largest_other r b =
-    rw (c.block.ensures.image, c.block.ensures.index, c.view-image.ensures.words, c.view-image.ensures.geo) at c.largest_other-count.ensures in
+    rw (c.view-image.ensures.words, c.view-image.ensures.geo) at c.largest_other-count.ensures in
     as-steps (at-place c.program.ensures (omega arith) count)
     (sym (counting-one r.geo r.words.now (mendable-facts r.geo r.words.now c.requires) b found.1 unset))

@@ -3,7 +3,7 @@ use mathlib.Core.Bool.{not}
 use mathlib.Core.Path.{sym, ap, ◌∙◌}
 use Rattle.std.specs.Prelude.{Err}
 use Rattle.calls.specs.Refusals.{check_answer}
-use Rattle.calls.proofs.CallLaws.{fault-refuses, fault-passes}
+use Rattle.calls.proofs.CallLaws.{fault-refuses, none-refused}
 use Rattle.shellwaltz.proofs.check.Goals as goal
 
 pub returns-in_default : goal.returns-in_default
@@ -20,4 +20,4 @@ pub returns-in-Ok : goal.returns-in-Ok
 unfolding check_answer
 returns-in-Ok c =
     let formed = sym (rw (c.in-Some.ensures.image.0, c.in-Some.ensures.image.1) at c.first_fault.ensures) ∙ c.in-Ok.is in
-    rw (ap not (sym c.in-Some.ensures.fits)) (sym (fault-passes _ _ formed))
+    rw (ap not (sym c.in-Some.ensures.fits)) (sym (none-refused _ _ formed))

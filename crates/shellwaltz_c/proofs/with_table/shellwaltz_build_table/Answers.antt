@@ -1,7 +1,7 @@
 -- `shellwaltz_c::with_table::shellwaltz_build_table` meets its contract: it passes on what the call answers and leaves.
 use mathlib.Core.Path.{ap, ◌∙◌}
-use Rattle.answers.specs.Answers.{number_of, block_of, rule_of}
-use Rattle.shellwaltz_c.proofs.SameCalls.{build-same}
+use Rattle.answers.specs.Answers.{number_of}
+use Rattle.shellwaltz_c.proofs.SameCalls.{names, build-same}
 use Rattle.shellwaltz_c.proofs.with_table.shellwaltz_build_table.Goals as goal
 
 pub returns : goal.returns
@@ -9,9 +9,10 @@ returns c =
     let same = build-same _ _ _ c.geometry.ensures _ _ in
     let answer = c.build-built.ensures.value ∙ same.0 in
     let tells = c.tell.ensures in
+    let pair = names tells.bad_block_after tells.bad_rule_after answer in
     record {
       value = tells.value ∙ ap number_of answer;
       table_after = c.build-built.ensures.table_after ∙ same.1;
-      bad_block_after = tells.bad_block_after ∙ ap block_of answer;
-      bad_rule_after = tells.bad_rule_after ∙ ap rule_of answer;
+      bad_block_after = pair.0;
+      bad_rule_after = pair.1;
     }

@@ -1,9 +1,8 @@
 -- `shellwaltz_c::with_table::shellwaltz_write_with_table` meets its contract: it passes on what the call answers and leaves.
-use mathlib.Core.Path.{ap, ◌∙◌}
-use Rattle.answers.specs.Answers.{number_of, block_of, rule_of}
+use mathlib.Core.Path.{refl, ap, ◌∙◌}
 use Rattle.calls.specs.Outcomes.{counts_of, outcome_of}
 use Rattle.calls.proofs.Told.{outcome-told}
-use Rattle.shellwaltz_c.proofs.SameCalls.{write-with-same, refused-write-with}
+use Rattle.shellwaltz_c.proofs.SameCalls.{parts-and-pair, write-with-same, refused-write-with}
 use Rattle.shellwaltz_c.proofs.with_table.shellwaltz_write_with_table.Goals as goal
 
 pub returns : goal.returns
@@ -12,12 +11,13 @@ returns c =
     let same = write-with-same _ _ _ c.geometry-geo.ensures a.image.now a.number a.buffer.now a.table.now in
     let told = ap outcome_of (c.write-wrote.ensures.value ∙ ap counts_of same.0) ∙ outcome-told _ _ (refused-write-with _ _ a.number a.buffer.now a.table.now) in
     let tells = c.tell_counts.ensures in
+    let said = parts-and-pair tells.value tells.bad_block_after tells.bad_rule_after (told, c.write-wrote.ensures.image_after) (refl, same.1.0) in
     record {
-      value = tells.value ∙ ap (λ o. number_of o.answer) told;
-      image_after = c.write-wrote.ensures.image_after ∙ same.1.0;
+      value = said.0;
+      image_after = said.1.0;
       table_after = c.write-wrote.ensures.table_after ∙ same.1.1;
-      words_after = tells.words_after ∙ ap (λ o. o.words) told;
-      erasures_after = tells.erasures_after ∙ ap (λ o. o.erasures) told;
-      bad_block_after = tells.bad_block_after ∙ ap (λ o. block_of o.answer) told;
-      bad_rule_after = tells.bad_rule_after ∙ ap (λ o. rule_of o.answer) told;
+      words_after = tells.words_after ∙ said.1.1.0;
+      erasures_after = tells.erasures_after ∙ said.1.1.1.0;
+      bad_block_after = said.1.1.1.1.0;
+      bad_rule_after = said.1.1.1.1.1;
     }

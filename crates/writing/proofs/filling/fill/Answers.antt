@@ -1,5 +1,5 @@
 -- `writing::filling::fill` meets its contract: the slot that it asks for is a free one of the image, and the sector is placed there.
-use Rattle.std.proofs.Common.{◌≡◌, ◌<◌, true, sym, ◌∙◌}
+use Rattle.std.proofs.Common.{◌≡◌, ◌<◌, true, sym, ◌∙◌, arith}
 use Rattle.geometry.specs.Geometry.{d}
 use Rattle.geometry.proofs.Laws.{d-positive}
 use Rattle.image.specs.Found.{Found, At}
@@ -48,7 +48,7 @@ pub place-requires-clause-b_lt_blocks : goal.place-requires-clause-b_lt_blocks
 place-requires-clause-b_lt_blocks c = (free (goal.at.place-requires-clause-b_lt_blocks c).In-Some).0
 
 pub place-requires-clause-i_bound : goal.place-requires-clause-i_bound
-place-requires-clause-i_bound c = (free (goal.at.place-requires-clause-i_bound c).In-Some).1
+place-requires-clause-i_bound c = omega (arith, (free (goal.at.place-requires-clause-i_bound c).In-Some).1)
 
 pub place-requires-clause-i_value : goal.place-requires-clause-i_value
 place-requires-clause-i_value c = (free (goal.at.place-requires-clause-i_value c).In-Some).2

@@ -185,8 +185,11 @@ returns-then-run-eq0-clause-run_after c =
 pub word_at-requires-clause-i_bound : goal.word_at-requires-clause-i_bound
 word_at-requires-clause-i_bound c =
     let own = (goal.at.word_at-requires-clause-i_bound c).After-own_slot in
-    rw (c.place_over.ensures.same_geo, lowest-is (goal.at.word_at-requires-clause-i_bound c).After-lowest_free-taken)
-    (has_room c.loop-i.invariant.1 c.requires.each_in_turn (turn own) (own-is own ∙ c.in-Live.is))
+    let taken : c.lowest_free-taken.result < d c.loop-i.run.geo =
+    rw (lowest-is (goal.at.word_at-requires-clause-i_bound c).After-lowest_free-taken)
+    (has_room c.loop-i.invariant.1 c.requires.each_in_turn (turn own) (own-is own ∙ c.in-Live.is)) in
+    let here : c.loop-i.i < d c.loop-i.run.geo = rw c.loop-i.invariant.1.done.same_geo (turn own) in
+    rw c.place_over.ensures.same_geo (omega (arith, taken, here))
 
 pub loop-i-preserved : goal.loop-i-preserved
 loop-i-preserved c =
