@@ -90,8 +90,8 @@ pub fn widened(live: Option<LiveBounds>, n: u32) -> LiveBounds
     }
 }
 
-// The least and the greatest number live in a block, if any is. (L and 0 are what no number lowers and none raises, so that a turn of the loop asks for
-// none of the turns before it.)
+// The least and the greatest number live in a block, if any is. (The loop begins with L and 0: every number is below the one and none below the other, so
+// that no turn asks whether there was a number before it.)
 pub fn live_bounds<K: Kinds>(kinds: &K) -> Option<LiveBounds>
     ensures { result ≡ bounds_among (K.block_of kinds.now).image.geo (K.kind kinds.now (K.block_of kinds.now).index) }
 {
